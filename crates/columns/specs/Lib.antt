@@ -1,0 +1,4 @@
+-- Lists as columns and rows, and searches by index.
+pub mod Column
+pub mod First
+pub mod Signal

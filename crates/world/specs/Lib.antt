@@ -1,0 +1,4 @@
+pub mod Rows
+pub mod Find
+pub mod Traits
+pub mod Names

@@ -1,0 +1,6 @@
+// The block world as a packed table: positions and facings, the fields of a row, look-up by position, traits and shapes.
+pub mod find;
+pub mod name;
+pub mod row;
+pub mod signal;
+pub mod traits;
