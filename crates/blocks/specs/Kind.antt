@@ -48,7 +48,7 @@ Piston = 12
 -- the number is one of the list
 abbrev pub oneOf : List ℕ → ℕ → Bool
 oneOf [] k = false
-oneOf (x ∷ xs) k = eqb x k || oneOf xs k
+oneOf (x ∷ xs) k = eqb k x || oneOf xs k
 
 abbrev pub isDust : ℕ → Bool
 isDust k = eqb k RedstoneWire

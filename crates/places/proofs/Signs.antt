@@ -5,9 +5,9 @@ use Prim.Native.Nat.{ℕ, zero, suc, _+_, _-_, _<_, _≤_}
 use native.Mathlib.Omega.{arith}
 use native.Mathlib.Nat.{lt-trans}
 use lib.Dec.{T, ltb, leb, eqb}
-use borrow.Author.Tests.{ltb-false, ne-eqb, eq-eqb, eqb-true, eqb-false}
+use borrow.Author.Tests.{ltb-false, lt-ltb, ne-eqb, eq-eqb, eqb-true, eqb-false}
 use Rattle.places.specs.Signed.{eqZ}
-use lib.IntN.{ℤ, pos, negsuc, _+ℤ_, subℕ}
+use lib.IntN.{ℤ, pos, negsuc, _+ℤ_, _-ℤ_, subℕ}
 use lib.Signed.{mag, ltZ}
 use mir.Syntax.{w32, w64}
 use mir.Val.{SFits, toZ, ofZ}
@@ -60,3 +60,9 @@ same-bits (pos m) (pos n) f g = refl
 same-bits (pos m) (negsuc n) f g = ne-eqb _ _ (differ m n (f .sfits) (g .sfits))
 same-bits (negsuc m) (pos n) f g = ne-eqb _ _ (λ (e : 4294967296 - suc m ≡ n). differ n m (g .sfits) (f .sfits) (sym e))
 same-bits (negsuc m) (negsuc n) f g = taken-from m n (f .sfits) (g .sfits)
+
+-- a number less a larger one
+pub less-than-none : (n m : ℕ) → n ≤ m → pos n -ℤ pos (suc m) ≡ negsuc (m - n)
+less-than-none n m h =
+    let e : suc m - suc n ≡ m - n = omega arith in
+    rw (lt-ltb n (suc m) (omega arith), e)

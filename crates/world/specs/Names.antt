@@ -43,8 +43,12 @@ slabShape type = cond (same type top) 2 (cond (same type double) 3 1)
 abbrev pub stairsShape : Bytes → ℕ
 stairsShape half = cond (same half top) 5 4
 
+-- "`minecraft:glass` or `minecraft:tinted_glass`"
+abbrev pub isGlass : Bytes → Bool
+isGlass name = same name clear || same name tinted
+
 -- "ending `_slab` first .., then `_stairs` .., then `minecraft:glass` or `minecraft:tinted_glass`; else plain"
 unfoldable pub shapeOfName : Bytes → Bytes → Bytes → ℕ
 shapeOfName name type half =
     cond (endsWith slab name) (slabShape type)
-    (cond (endsWith stairs name) (stairsShape half) (cond (same name clear || same name tinted) 6 0))
+    (cond (endsWith stairs name) (stairsShape half) (cond (isGlass name) 6 0))

@@ -1,6 +1,6 @@
 // The shape of a block by its name. A name is never refused.
 ghost use mathlib.Core.Path.{_≡_};
-ghost use Rattle.world.specs.Names.{endsWith, slabShape, stairsShape, shapeOfName};
+ghost use Rattle.world.specs.Names.{endsWith, slabShape, stairsShape, isGlass, shapeOfName};
 
 fn ends_with(s: &[u8], end: &[u8]) -> bool
     ensures { λ r. ⌜ r ≡ endsWith (now (end .entry)) (now (s .entry)) ⌝ }
@@ -35,6 +35,12 @@ fn stairs_shape(half: &[u8]) -> u8
     4
 }
 
+fn is_glass(name: &[u8]) -> bool
+    ensures { λ r. ⌜ r ≡ isGlass (now (name .entry)) ⌝ }
+{
+    columns::same(name, b"minecraft:glass") | columns::same(name, b"minecraft:tinted_glass")
+}
+
 // The shape of a name with the type and half of its block state, each empty where it is missing.
 pub fn shape_of_name(name: &[u8], slab_type: &[u8], half: &[u8]) -> u8
     ensures { λ r. ⌜ r ≡ shapeOfName (now (name .entry)) (now («slab_type» .entry)) (now (half .entry)) ⌝ }
@@ -45,10 +51,7 @@ pub fn shape_of_name(name: &[u8], slab_type: &[u8], half: &[u8]) -> u8
     if ends_with(name, b"_stairs") {
         return stairs_shape(half);
     }
-    if columns::same(name, b"minecraft:glass") {
-        return 6;
-    }
-    if columns::same(name, b"minecraft:tinted_glass") {
+    if is_glass(name) {
         return 6;
     }
     0

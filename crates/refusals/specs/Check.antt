@@ -1,0 +1,67 @@
+-- Which refusal falls on a call, and what the call answers and writes then.
+-- Assumes nothing.
+use mathlib.Core.Bool.{Bool, true, false, not}
+use Prim.Native.Nat.{ℕ, _+_, _*_, _-_, _%_}
+use lib.ListN.{length}
+use lib.Dec.{eqb, leb}
+use Rattle.columns.specs.declared.Found.{Found}
+use Rattle.columns.specs.declared.Found.the-variants.{At, Nothing}
+use Rattle.columns.specs.Column.{Bytes}
+use Rattle.columns.specs.First.{firstFrom}
+use Rattle.places.specs.Places.{before}
+use Rattle.world.specs.Rows.{rows, posOf}
+use Rattle.refusals.specs.declared.Checked.{Checked}
+use Rattle.refusals.specs.declared.Checked.the-variants.{Accepted, Refused}
+use Rattle.refusals.specs.Good.{goodProfile, goodRow}
+
+-- ---- one test after the other
+
+-- the refusal where the test fails, or what comes next
+abbrev pub refuseUnless : ℕ → Bool → Checked → Checked
+refuseUnless n true next = next
+refuseUnless n false next = Refused n 0
+
+-- the refusal at the row found, d rows on, or what comes next
+abbrev pub refuseAt : ℕ → ℕ → Found → Checked → Checked
+refuseAt n d (At i) next = Refused n (i + d)
+refuseAt n d Nothing next = next
+
+-- the first refusal, or what comes next
+abbrev pub orElse : Checked → Checked → Checked
+orElse Accepted next = next
+orElse (Refused n i) next = Refused n i
+
+-- ---- the tests of a profile and a table
+
+-- 4 bad row: "a field outside the layout"
+abbrev pub isBad : Bytes → ℕ → Bool
+isBad t i = not (goodRow t i)
+
+-- 5 misplaced: "a position not after the row before", of row i + 1
+abbrev pub isMisplaced : Bytes → ℕ → Bool
+isMisplaced t i = not (before (posOf t i) (posOf t (i + 1)))
+
+-- "4 over all rows before 5"; "The row returned is the first offending"
+unfoldable pub checkRows : Bytes → Checked
+checkRows t =
+    refuseAt 4 0 (firstFrom (isBad t) (rows t) 0) (refuseAt 5 1 (firstFrom (isMisplaced t) (rows t - 1) 0) Accepted)
+
+-- 2 ragged: "table length not a multiple of 32"; 3 crowded: "more than 1,024 rows"
+unfoldable pub checkTable : Bytes → Checked
+checkTable t = refuseUnless 2 (eqb (length t % 32) 0) (refuseUnless 3 (leb (rows t) 1024) (checkRows t))
+
+-- 1 profile, and then the table: "Tested in this order"
+unfoldable pub checkInput : Bytes → Bytes → Checked
+checkInput p t = refuseUnless 1 (goodProfile p) (checkTable t)
+
+-- ---- what a call answers and writes
+
+-- "65,536 times the number plus the row", or the answer of a call that is not refused
+abbrev pub answerOf : Checked → ℕ → ℕ
+answerOf Accepted done = done
+answerOf (Refused n i) done = 65536 * n + i
+
+-- what a buffer holds after a call: a refused call writes no byte
+abbrev pub written : {A : Type 0} → Checked → A → A → A
+written Accepted old new = new
+written (Refused n i) old new = old

@@ -1,0 +1,69 @@
+// The refusals: which of them falls on the inputs of a call, and the number that the call answers then.
+pub mod good;
+mod scan;
+
+use columns::Found;
+ghost use mathlib.Core.Path.{_≡_};
+ghost use Prim.Native.Nat.{_≤_};
+ghost use lib.ListN.{length};
+ghost use Rattle.refusals.specs.Check.{checkRows, checkTable, checkInput, answerOf};
+
+// Whether the inputs are accepted, or the number of the refusal that falls on them and the row at fault.
+pub enum Checked {
+    Accepted,
+    Refused { number: u8, row: u16 },
+}
+
+// Refusals 4 and 5, over the rows of a table that is not crowded.
+fn check_rows(table: &[u8]) -> Checked
+    requires { ⌜ length (now table) ≤ 32768 ⌝ }
+    ensures { λ r. ⌜ r ≡ checkRows (now (table .entry)) ⌝ }
+{
+    let rows = world::row::rows(table);
+    if let Found::At(i) = scan::first_bad(table, rows) {
+        return Checked::Refused {
+            number: 4,
+            row: i as u16,
+        };
+    }
+    if let Found::At(i) = scan::first_misplaced(table, rows) {
+        return Checked::Refused {
+            number: 5,
+            row: (i + 1) as u16,
+        };
+    }
+    Checked::Accepted
+}
+
+// Refusals 2 to 5.
+pub fn check_table(table: &[u8]) -> Checked
+    ensures { λ r. ⌜ r ≡ checkTable (now (table .entry)) ⌝ }
+{
+    if table.len() % 32 != 0 {
+        return Checked::Refused { number: 2, row: 0 };
+    }
+    if table.len() / 32 > 1024 {
+        return Checked::Refused { number: 3, row: 0 };
+    }
+    check_rows(table)
+}
+
+// Refusals 1 to 5.
+pub fn check_input(profile: &[u8], table: &[u8]) -> Checked
+    ensures { λ r. ⌜ r ≡ checkInput (now (profile .entry)) (now (table .entry)) ⌝ }
+{
+    if good::good_profile(profile) {
+        return check_table(table);
+    }
+    Checked::Refused { number: 1, row: 0 }
+}
+
+// The number that a call answers: 65,536 times the refusal's number plus the row, or the result of a call that is not refused.
+pub fn answer(checked: Checked, done: u32) -> u32
+    ensures { λ r. ⌜ r ≡ answerOf checked done ⌝ }
+{
+    match checked {
+        Checked::Accepted => done,
+        Checked::Refused { number, row } => 65536 * (number as u32) + (row as u32),
+    }
+}

@@ -1,0 +1,69 @@
+-- `world::find::find` meets its contract. The loop's invariant: the answer is that of the search from row i on. Assumes nothing.
+use borrow.Author.Needs.{needs}
+use mathlib.Core.Path.{_≡_, sym, _∙_}
+use mathlib.Core.Bool.{true, false}
+use Prim.Native.Nat.{_≤_, _-_}
+use native.Mathlib.Nat.{sub-zero}
+use native.Mathlib.Omega.{arith}
+use Rattle.columns.specs.First.{firstFrom}
+use Rattle.columns.proofs.First.{scan-hit, scan-miss, scan-over}
+use Rattle.world.specs.Rows.{rows}
+use Rattle.world.specs.Find.{standsAt, find}
+use Rattle.world.proofs.find.find.Statement.{statement}
+use Rattle.world.proofs.find.find.Tie as tie
+
+abbrev Inv-loop : tie.InvT-loop
+Inv-loop table q n i₀ i = (i ≤ n) × (find table q ≡ firstFrom (standsAt table q) (n - i) i)
+
+abbrev μ-loop : tie.MeasureT-loop
+μ-loop table q n i₀ i = n - i
+
+rows-requires : tie.Need-rows-requires Inv-loop μ-loop
+rows-requires c κs = search needs
+
+loop-holds : tie.Need-loop-holds Inv-loop μ-loop
+unfolding find
+loop-holds c = (omega arith, rw (sub-zero, c .rows .ensures))
+
+pos-of-requires : tie.Need-pos-of-requires Inv-loop μ-loop
+pos-of-requires c κs = search needs
+
+same-requires : tie.Need-same-requires Inv-loop μ-loop
+same-requires c κs = search needs
+
+returns : tie.Need-returns Inv-loop μ-loop
+returns c =
+    let l = c .before .before .before .before in
+    let e : standsAt (l .before .before .before .args .table .now) (l .before .before .before .args .q) (l .loop .i) ≡ true = cc in
+    sym (l .loop .inv .1 ∙ scan-hit _ _ _ (c .before .before .before .loop-test .taken) e)
+
+add-i : tie.Need-add-i Inv-loop μ-loop
+add-i c = omega arith
+
+loop-less : tie.Need-loop-less Inv-loop μ-loop
+loop-less c = omega arith
+
+loop-again : tie.Need-loop-again Inv-loop μ-loop
+loop-again c =
+    let l = c .before .before .before .before in
+    let e : standsAt (l .before .before .before .args .table .now) (l .before .before .before .args .q) (l .loop .i) ≡ false = cc in
+    (omega arith, l .loop .inv .1 ∙ scan-miss _ _ _ (c .before .before .before .loop-test .taken) e)
+
+returns-2 : tie.Need-returns-2 Inv-loop μ-loop
+returns-2 c = sym (c .before .loop .inv .1 ∙ scan-over _ _ _ (omega arith))
+
+pub find-spec : {M : Type 1} → statement M
+find-spec =
+    tie.close
+    (tie.spec
+    Inv-loop
+    μ-loop
+    rows-requires
+    loop-holds
+    pos-of-requires
+    same-requires
+    returns
+    add-i
+    loop-less
+    loop-again
+    returns-2)
