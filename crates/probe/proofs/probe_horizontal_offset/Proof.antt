@@ -1,0 +1,21 @@
+-- `probe::probe_horizontal_offset` meets its contract. Assumes nothing.
+use borrow.Author.Needs.{needs}
+use Rattle.probe.proofs.probe_horizontal_offset.Statement.{statement}
+use Rattle.probe.proofs.probe_horizontal_offset.Tie as tie
+
+facing-of-requires : tie.Need-facing-of-requires
+facing-of-requires c κs = search needs
+
+horizontal-offset-requires : tie.Need-horizontal-offset-requires
+horizontal-offset-requires c κs = search needs
+
+place-coordinate-requires : tie.Need-place-coordinate-requires
+place-coordinate-requires c κs = search needs
+
+returns : tie.Need-returns
+returns c = ?
+
+pub probe-horizontal-offset-spec : {M : Type 1} → statement M
+probe-horizontal-offset-spec =
+    tie.close
+    (tie.spec facing-of-requires horizontal-offset-requires place-coordinate-requires returns)

@@ -1,0 +1,89 @@
+// C calls over the inner functions, so that the differential bench reaches each of them. Not for the editor.
+mod numbers;
+
+
+use places::Pos;
+ghost use mathlib.Core.Path.{_≡_};
+ghost use lib.IntN.{ℤ};
+ghost use Rattle.places.specs.Places.{cell, opposite, horizontalOffset};
+ghost use Rattle.places.specs.Places.{offset as moved};
+ghost use Rattle.world.specs.Find.{find, kindAt};
+ghost use Rattle.world.specs.Traits.{traits};
+ghost use Rattle.world.specs.Names.{shapeOfName};
+ghost use Rattle.refusals.specs.Check.{checkInput, answerOf};
+ghost use Rattle.supports.specs.Supports.{Listed};
+ghost use Rattle.probe.specs.Numbers.{rowNumber, kindProperties, traitsNumber, coordinate, placeCoordinate, knownFacing};
+
+// 0, or the refusal that falls on a profile and a table.
+#[no_mangle]
+pub extern "C" fn probe_check(profile: &[u8], table: &[u8]) -> u32
+    ensures { λ r. ⌜ r ≡ answerOf (checkInput (now (profile .entry)) (now (table .entry))) 0 ⌝ }
+{
+    refusals::answer(refusals::check_input(profile, table), 0)
+}
+
+#[no_mangle]
+pub extern "C" fn probe_find(table: &[u8], x: i32, y: i32, z: i32) -> u64
+    ensures { λ r. ⌜ r ≡ rowNumber (find (now (table .entry)) (cell x y z)) ⌝ }
+{
+    numbers::row_number(world::find::find(table, Pos::new(x, y, z)))
+}
+
+#[no_mangle]
+pub extern "C" fn probe_kind_at(table: &[u8], x: i32, y: i32, z: i32) -> u32
+    ensures { λ r. ⌜ r ≡ kindAt (now (table .entry)) (cell x y z) ⌝ }
+{
+    world::find::kind_at(table, Pos::new(x, y, z)) as u32
+}
+
+#[no_mangle]
+pub extern "C" fn probe_properties(profile: &[u8], kind: u32) -> u32
+    ensures { λ r. ⌜ r ≡ kindProperties (now (profile .entry)) kind ⌝ }
+{
+    if 255 < kind {
+        return 0;
+    }
+    numbers::properties_number(blocks::properties(profile, kind as u8))
+}
+
+#[no_mangle]
+pub extern "C" fn probe_traits(profile: &[u8], table: &[u8], row: u64) -> u32
+    ensures { λ r. ⌜ r ≡ traitsNumber (traits (now (profile .entry)) (now (table .entry)) row) ⌝ }
+{
+    numbers::traits_number(world::traits::redstone_traits(profile, table, row as usize))
+}
+
+#[no_mangle]
+pub extern "C" fn probe_shape_of_name(name: &[u8], slab_type: &[u8], half: &[u8]) -> u32
+    ensures { λ r. ⌜ r ≡ shapeOfName (now (name .entry)) (now («slab_type» .entry)) (now (half .entry)) ⌝ }
+{
+    world::name::shape_of_name(name, slab_type, half) as u32
+}
+
+#[no_mangle]
+pub extern "C" fn probe_support_issues(profile: &[u8], table: &[u8], column: &mut [u16]) -> u32
+    ensures { λ r. ⌜ Listed (now (profile .entry)) (now (table .entry)) (now (column .entry)) (now (column .exit)) r ⌝ }
+{
+    supports::support_issues(profile, table, column)
+}
+
+#[no_mangle]
+pub extern "C" fn probe_offset(x: i32, y: i32, z: i32, dx: i32, dy: i32, dz: i32, axis: u32) -> i32
+    ensures { λ r. ⌜ r ≡ coordinate (moved (cell x y z) dx dy dz) axis ⌝ }
+{
+    numbers::coordinate(Pos::new(x, y, z).offset(dx, dy, dz), axis)
+}
+
+#[no_mangle]
+pub extern "C" fn probe_opposite(facing: u32) -> u32
+    ensures { λ r. ⌜ r ≡ opposite (knownFacing facing) ⌝ }
+{
+    numbers::facing_of(facing).opposite().code as u32
+}
+
+#[no_mangle]
+pub extern "C" fn probe_horizontal_offset(facing: u32, axis: u32) -> i32
+    ensures { λ r. ⌜ r ≡ placeCoordinate (horizontalOffset (knownFacing facing)) axis ⌝ }
+{
+    numbers::place_coordinate(numbers::facing_of(facing).horizontal_offset(), axis)
+}
