@@ -1,0 +1,8 @@
+-- The laws that `Settled` and `Demand` and the crates above cite.
+pub mod Kept
+pub mod Settle
+pub mod Seek
+pub mod Join
+pub mod Gather
+pub mod Map
+pub mod Loop
