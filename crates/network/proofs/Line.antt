@@ -5,7 +5,7 @@ use mathlib.Core.Bool.{Bool, false, _&&_, _||_}
 use mathlib.Core.List.{List, [], _∷_}
 use Prim.Native.Nat.{ℕ}
 use lib.Dec.{eqb}
-use Rattle.network.specs.Network.{Network, State}
+use Rattle.network.specs.Network.{Network}
 use Rattle.network.specs.Settled.{roundsOf, settled}
 use Rattle.network.specs.Computing.{computing}
 

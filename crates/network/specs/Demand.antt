@@ -1,4 +1,5 @@
--- What holds of every network, whatever is emitted: the rounds, the one set of dust levels, the larger of two, and how far a change carries.
+-- What holds in every network, whatever is emitted: of the rounds, of the one set of dust levels, of the larger of two emitted columns, and of how
+-- far a change carries.
 -- Assumes nothing.
 use mathlib.Core.Path.{_≡_, ap, sym, _∙_}
 use mathlib.Core.Bool.{true, false}
@@ -38,6 +39,7 @@ module _ (N : Network) (e : Column) where
   unfolding settled
   answers-later k m a h = stay N e (rounds-first .answers) (le-trans (rounds-first .least k a) h)
 
+  -- They are what 17 rounds leave.
   settled-is : settled N e ≡ after N e 17
   settled-is = sym (answers-later 17 17 (seventeen N e) (le-refl 17) .1)
 
@@ -56,7 +58,7 @@ module _ (N : Network) (e : Column) where
   pub settled-only : (x : ℕ → ℕ) → Satisfies N e x → (i : ℕ) → i < N .size → N .dust i ≡ true → x i ≡ row (settled N e .signal) i
   settled-only x h i l d = rw settled-is (satisfied-is N e x h i l d)
 
-  -- and any other set breaks it at some dust.
+  -- and any other set breaks it at some dust, which is named.
   pub others-break : (x : ℕ → ℕ) (i : ℕ) → i < N .size → N .dust i ≡ true → ¬ (x i ≡ row (settled N e .signal) i) → Breaks N e x
   others-break x i l d n = ⊎-elim (λ h. absurd (n (settled-only x h i l d))) (λ b. b) (satisfied-or N e x)
 
@@ -65,8 +67,7 @@ module _ (N : Network) (e : Column) where
   -- Power is 0 off the map, where power reaches only rows of the map.
   pub off-map : OnMap N → (i : ℕ) → N .mapped i ≡ false → (row (settled N e .weak) i ≡ 0) × (row (settled N e .strong) i ≡ 0)
   unfolding round
-  off-map o i off =
-      rw (← settled-again) (weakOf-off N o i off _ _, strongOf-off N o i off e)
+  off-map o i off = rw (← settled-again) (weakOf-off N o i off _ _, strongOf-off N o i off e)
 
   -- No settled number is above m, where no emitted level is and m is at least the cap.
   pub settled-bounded : (m : ℕ) → maxSignal ≤ m → ((i : ℕ) → row e i ≤ m) → Bounded m (settled N e)

@@ -1,5 +1,6 @@
 -- The laws that `Settled` and `Demand` and the crates above cite.
 pub mod Kept
+pub mod States
 pub mod Settle
 pub mod Seek
 pub mod Join

@@ -93,15 +93,16 @@ module _ (N : Network) where
     pub answers : Answers e k
     pub least : (j : ℕ) → Answers e j → k ≤ j
 
-  -- the level x i satisfies the definition at row i: it is no dust, or "the rule for a dust's level gives the same" back
+  -- row i is no dust, or the rule for its level gives x i back
   abbrev pub SatisfiesAt : Column → (ℕ → ℕ) → ℕ → Type 0
   SatisfiesAt e x i = dust i ≡ true → level e (strongOf e) (signals e x) i ≡ x i
 
-  -- "A set of dust levels, one whole number from 0 up for each dust row, satisfies the definition"
+  -- "A set of dust levels, one whole number from 0 up for each dust row, satisfies the definition where the rule for a dust's level gives the same
+  -- set back": the levels x, read at the dust rows only
   abbrev pub Satisfies : Column → (ℕ → ℕ) → Type 0
   Satisfies e x = (i : ℕ) → i < size → SatisfiesAt e x i
 
-  -- it breaks the definition at a dust, where the rule gives another level
+  -- the levels x break the definition at a dust: the rule gives another level there
   pub record Breaks (e : Column) (x : ℕ → ℕ) : Type 0 where
     pub place : ℕ
     pub inside : place < size

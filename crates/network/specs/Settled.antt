@@ -10,7 +10,7 @@ pub record Settling (N : Network) (e : Column) : Type 0 where
   pub rounds : ℕ
   pub first : Rounds N e rounds
 
--- a first round that answers there is, in every network and whatever is emitted
+-- There is one, in every network and whatever is emitted. How it is found makes no difference: no other number is (`rounds-are` of `Demand`).
 unfoldable pub settling : (N : Network) (e : Column) → Settling N e
 settling N e = record { rounds = sought N e; first = sought-first N e }
 

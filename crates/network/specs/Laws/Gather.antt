@@ -41,13 +41,13 @@ unfolding best
 best-least [] f m h = zero-le
 best-least (x ∷ xs) f m h = max-le (h x) (best-least xs f m h)
 
+-- ---- from source to source
+
+pub arriving-start : (edge : ℕ → ℕ → Bool) (f : ℕ → ℕ) (i : ℕ) → arriving 0 edge f i ≡ 0
+unfolding arriving top
+arriving-start edge f i = refl
+
 module _ (n : ℕ) (edge : ℕ → ℕ → Bool) (f : ℕ → ℕ) (i : ℕ) where
-  -- ---- from source to source
-
-  pub arriving-start : arriving 0 edge f i ≡ 0
-  unfolding arriving top
-  arriving-start = refl
-
   -- one source more
   pub arriving-next : arriving (n + 1) edge f i ≡ max (arriving n edge f i) (cond (edge n i) (f n) 0)
   unfolding arriving top

@@ -8,11 +8,11 @@ use native.Mathlib.Decide.{decLe}
 use native.Mathlib.Omega.{arith}
 use lib.ListN.{length}
 use Rattle.columns.specs.Column.{Column}
-use Rattle.columns.proofs.Columns.{length-tabulate, same-rows}
-use Rattle.network.specs.Network.{Network, State, strongOf, weakOf, heldOf, nowhere, signals, start, round, after, Answers}
+use Rattle.columns.proofs.Columns.{same-rows}
+use Rattle.network.specs.Network.{Network, State, Answers}
 use Rattle.network.specs.Compare.{Larger, Rows, States}
 use Rattle.network.specs.Laws.Kept.{Kept, after-kept}
-use Rattle.network.specs.Laws.Seek.{one-state}
+use Rattle.network.specs.Laws.States.{one-state, Sized, after-sized}
 
 pub larger-kept : Kept Larger Larger
 larger-kept = omega arith
@@ -23,18 +23,6 @@ rises-larger f rises x y =
     by-cases (decLe x y)
     (λ h. rw (max-eq-right h) (max-eq-right (rises x y h)))
     (λ n. let h : y ≤ x = omega arith in rw (max-eq-left h) (max-eq-left (rises y x h)))
-
--- every column of a state has n rows
-record Sized (n : ℕ) (t : State) : Type 0 where
-  signal : length (t .signal) ≡ n
-  held : length (t .held) ≡ n
-  weak : length (t .weak) ≡ n
-  strong : length (t .strong) ≡ n
-
-after-sized : (N : Network) (e : Column) (k : ℕ) → Sized (N .size) (after N e k)
-unfolding after start round signals nowhere heldOf weakOf strongOf
-after-sized N e zero = record { signal = length-tabulate _ 0 _; held = length-tabulate _ 0 _; weak = length-tabulate _ 0 _; strong = length-tabulate _ 0 _ }
-after-sized N e (suc k) = record { signal = length-tabulate _ 0 _; held = length-tabulate _ 0 _; weak = length-tabulate _ 0 _; strong = length-tabulate _ 0 _ }
 
 -- only one column, and only one state, is the larger of two
 one-larger : {n : ℕ} {x y z w : Column} → Rows Larger x y z → Rows Larger x y w → length z ≡ n → length w ≡ n → z ≡ w

@@ -1,15 +1,15 @@
--- "power 0 off the map"
+-- "power 0 off the map": no power arrives at a row that is not on it.
 -- Assumes nothing.
 use mathlib.Core.Path.{_≡_, _∙_}
 use mathlib.Core.Bool.{false}
 use mathlib.Core.Logic.{by-cases}
-use Prim.Native.Nat.{ℕ, zero, suc, _≤_}
+use Prim.Native.Nat.{ℕ}
 use native.Mathlib.Decide.{decLt}
 use native.Mathlib.Omega.{arith}
 use Rattle.columns.specs.Column.{Column, row, tabulate}
 use Rattle.columns.proofs.Columns.{row-tabulate}
 use Rattle.network.specs.Levels.{arriving}
-use Rattle.network.specs.Network.{Network, strongOf, weakOf, nowhere, start, round, after}
+use Rattle.network.specs.Network.{Network, strongOf, weakOf}
 use Rattle.network.specs.Compare.{OnMap}
 use Rattle.network.specs.Laws.Kept.{row-past}
 use Rattle.network.specs.Laws.Gather.{arriving-none}

@@ -1,36 +1,15 @@
 -- The first round that answers is found by trying one after the other.
 -- Assumes nothing.
-use mathlib.Core.Path.{_≡_, refl, ap, sym, _∙_}
-use mathlib.Core.Bool.{Bool, true, false, _&&_, false≢true}
+use mathlib.Core.Path.{_≡_, refl, sym, _∙_}
+use mathlib.Core.Bool.{Bool, true, false, false≢true}
 use mathlib.Core.Logic.{⊎-elim}
 use Prim.Native.Nat.{ℕ, zero, suc, _+_, _≤_, _<_}
 use native.Mathlib.Nat.{eq-or-lt-of-le}
 use native.Mathlib.Omega.{arith}
-use Rattle.columns.specs.Column.{Column, same}
-use Rattle.columns.proofs.Columns.{same-true, same-refl}
-use Rattle.columns.proofs.Truth.{and-true}
+use Rattle.columns.specs.Column.{Column}
 use Rattle.network.specs.Network.{Network, State, start, round, after, Answers, Rounds}
+use Rattle.network.specs.Laws.States.{sameState, same-state, state-same}
 use Rattle.network.specs.Laws.Settle.{seventeen}
-
--- two states are one where their columns are
-pub one-state : {t u : State} → t .signal ≡ u .signal → t .held ≡ u .held → t .weak ≡ u .weak → t .strong ≡ u .strong → t ≡ u
-one-state p q r s = λ i. record { signal = p i; held = q i; weak = r i; strong = s i }
-
--- the two states are the same
-unfoldable pub sameState : State → State → Bool
-sameState t u = same (t .signal) (u .signal) && (same (t .held) (u .held) && (same (t .weak) (u .weak) && same (t .strong) (u .strong)))
-
-same-state : (t u : State) → sameState t u ≡ true → t ≡ u
-unfolding sameState
-same-state t u h =
-    let (a, p) = and-true (same (t .signal) (u .signal)) _ h in
-    let (b, q) = and-true (same (t .held) (u .held)) _ p in
-    let (c, d) = and-true (same (t .weak) (u .weak)) _ q in
-    one-state (same-true _ _ a) (same-true _ _ b) (same-true _ _ c) (same-true _ _ d)
-
-state-same : (t u : State) → t ≡ u → sameState t u ≡ true
-unfolding sameState
-state-same t u e = rw (e, same-refl (u .signal), same-refl (u .held), same-refl (u .weak), same-refl (u .strong))
 
 module _ (N : Network) (e : Column) where
   -- no round up to 0 answers
@@ -58,6 +37,7 @@ module _ (N : Network) (e : Column) where
       go true p r = rw (seek, p) (record { answers = same-state _ _ p; least = f })
       go false p r = rw (seek, p) (r (none-more k (λ q. absurd (false≢true (sym p ∙ state-same _ _ q))) f))
 
+  -- round 17 answers, so 17 rounds are enough
   unfoldable pub sought : ℕ
   sought = seek 17 (start N e) 0
 
