@@ -1,0 +1,9 @@
+-- The laws that `Settled` and `Demand` and the crates above cite.
+pub mod Kept
+pub mod States
+pub mod Settle
+pub mod Seek
+pub mod Join
+pub mod Gather
+pub mod Map
+pub mod Loop

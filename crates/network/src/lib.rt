@@ -1,0 +1,1 @@
+// Settling over any network: definitions and laws, in specs/. No code.
