@@ -1,7 +1,6 @@
 // C calls over the inner functions, so that the differential bench reaches each of them. Not for the editor.
 mod numbers;
 
-
 use places::Pos;
 ghost use mathlib.Core.Path.{_≡_};
 ghost use lib.IntN.{ℤ};

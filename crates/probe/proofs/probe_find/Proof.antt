@@ -14,7 +14,9 @@ row-number-requires : tie.Need-row-number-requires
 row-number-requires c κs = search needs
 
 returns : tie.Need-returns
-returns c = ?
+returns c =
+    let f = c .before .before .before .before .fits in
+    rw (c .row-number .ensures, c .before .find .ensures, c .before .before .new .ensures, back32 _ (f .x), back32 _ (f .y), back32 _ (f .z))
 
 pub probe-find-spec : {M : Type 1} → statement M
 probe-find-spec = tie.close (tie.spec new-requires find-requires row-number-requires returns)

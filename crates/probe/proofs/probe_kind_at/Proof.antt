@@ -14,7 +14,9 @@ cast-result : tie.Need-cast-result
 cast-result c = search needs
 
 returns : tie.Need-returns
-returns c = ?
+returns c =
+    let f = c .before .before .before .fits in
+    rw (c .kind-at .ensures, c .before .new .ensures, back32 _ (f .x), back32 _ (f .y), back32 _ (f .z))
 
 pub probe-kind-at-spec : {M : Type 1} → statement M
 probe-kind-at-spec = tie.close (tie.spec new-requires kind-at-requires cast-result returns)

@@ -13,7 +13,7 @@ cast-result : tie.Need-cast-result
 cast-result c = search needs
 
 returns : tie.Need-returns
-returns c = ?
+returns c = rw (c .before .opposite .ensures, c .before .before .facing-of .ensures)
 
 pub probe-opposite-spec : {M : Type 1} → statement M
 probe-opposite-spec = tie.close (tie.spec facing-of-requires opposite-requires cast-result returns)

@@ -7,7 +7,7 @@ use Rattle.probe.proofs.probe_properties.Tie as tie
 
 returns : tie.Need-returns
 unfolding kindProperties
-returns c = ?
+returns c = rw (lt-leb (c .before .before .args .kind) 255 (c .if1 .taken))
 
 cast-properties : tie.Need-cast-properties
 cast-properties c = search needs
@@ -20,7 +20,7 @@ properties-number-requires c κs = search needs
 
 returns-2 : tie.Need-returns-2
 unfolding kindProperties
-returns-2 c = ?
+returns-2 c = rw (le-leb (c .before .before .before .before .args .kind) 255 (c .before .before .if1 .left), ← c .before .properties .ensures) (c .properties-number .ensures)
 
 pub probe-properties-spec : {M : Type 1} → statement M
 probe-properties-spec =

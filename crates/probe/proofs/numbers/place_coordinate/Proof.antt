@@ -1,6 +1,9 @@
 -- `probe::numbers::place_coordinate` meets its contract, by the place's cases. Assumes nothing.
+use mathlib.Core.Path.{_∙_}
+use borrow.Author.Needs.{needs, sfits-of}
+use mir.Syntax.{w32}
+use mir.Val.{SFits}
 use Rattle.places.proofs.Signs.{back32}
-use borrow.Author.Needs.{needs}
 use Rattle.probe.proofs.numbers.place_coordinate.Statement.{statement}
 use Rattle.probe.proofs.numbers.place_coordinate.Tie as tie
 
@@ -14,10 +17,12 @@ enum-told : tie.Need-enum-told
 enum-told c = search needs
 
 returns : tie.Need-returns
-returns c = ?
+returns c =
+    let r : SFits w32 (c .coordinate .result) = sfits-of (c .coordinate .ok) in
+    rw (c .before .before .place .given .1) (back32 _ r ∙ c .coordinate .ensures)
 
 returns-2 : tie.Need-returns-2
-returns-2 c = ?
+returns-2 c = rw (c .enum-told .given .1)
 
 pub place-coordinate-spec : {M : Type 1} → statement M
 place-coordinate-spec =
