@@ -1,0 +1,50 @@
+-- Laws of the emitted levels: they rise with the device bytes, and fit a byte.
+-- Assumes nothing.
+use mathlib.Core.Path.{_≡_, ap, _∙_}
+use mathlib.Core.Bool.{Bool, true, false, cond}
+use Prim.Native.Nat.{ℕ, zero, suc, _≤_, zero-le}
+use native.Mathlib.Nat.{le-refl, le-trans, min-le-left}
+use native.Mathlib.Omega.{arith}
+use lib.Dec.{eqb, eqb·suc-zero}
+use Rattle.columns.specs.Column.{Bytes, Column, row}
+use Rattle.columns.specs.Signal.{maxSignal}
+use Rattle.network.specs.Compare.{Larger, Rows}
+use Rattle.network.specs.Laws.Kept.{tabulate-kept}
+use Rattle.network.specs.Laws.Join.{larger-kept, rises-larger}
+use Rattle.blocks.specs.Kind.{Comparator, RedstoneBlock, isSwitch}
+use Rattle.world.specs.Rows.{rows, kindOf, isPowered}
+use Rattle.electrical.specs.Emitted.{isOnOff, switchLevel, emittedLevel, emitted}
+
+cond-rises : (b : Bool) {w x y z : ℕ} → w ≤ x → y ≤ z → cond b w y ≤ cond b x z
+cond-rises true g h = g
+cond-rises false g h = h
+
+lit-rises : (x y : ℕ) → x ≤ y → cond (eqb x 0) 0 maxSignal ≤ cond (eqb y 0) 0 maxSignal
+lit-rises zero y h = zero-le
+lit-rises (suc x) zero h = absurd (omega arith)
+lit-rises (suc x) (suc y) h = simp eqb·suc-zero (le-refl 15)
+
+level-rises : (t : Bytes) (i x y : ℕ) → x ≤ y → emittedLevel t i x ≤ emittedLevel t i y
+unfolding emittedLevel
+level-rises t i x y h =
+    cond-rises (eqb (kindOf t i) RedstoneBlock) (le-refl _)
+    (cond-rises (isSwitch (kindOf t i)) (le-refl _)
+    (cond-rises (isOnOff (kindOf t i)) (lit-rises x y h) (cond-rises (eqb (kindOf t i) Comparator) h zero-le)))
+
+-- of the row-wise larger of two device columns the emitted levels are the larger ones
+pub emitted-larger : (t : Bytes) {a b c : Column} → Rows Larger a b c → Rows Larger (emitted t a) (emitted t b) (emitted t c)
+unfolding emitted
+emitted-larger t h =
+    tabulate-kept larger-kept (rows t) (λ i. rises-larger (emittedLevel t i) (level-rises t i) _ _ ∙ ap (emittedLevel t i) (h .at i))
+
+either : (c : Bool) {x y m : ℕ} → x ≤ m → y ≤ m → cond c x y ≤ m
+either true g h = g
+either false g h = h
+
+-- an emitted level is at most the cap, or the device byte
+pub level-byte : (t : Bytes) (i b m : ℕ) → maxSignal ≤ m → b ≤ m → emittedLevel t i b ≤ m
+unfolding emittedLevel switchLevel
+level-byte t i b m cap h =
+    either (eqb (kindOf t i) RedstoneBlock) cap
+    (either (isSwitch (kindOf t i)) (either (isPowered t i) (le-trans (min-le-left 15 _) cap) zero-le)
+    (either (isOnOff (kindOf t i)) (either (eqb b 0) zero-le cap) (either (eqb (kindOf t i) Comparator) h zero-le)))

@@ -1,0 +1,88 @@
+-- What reaches what: the network of a table, under a profile. A source is row j, a target row i.
+-- Assumes nothing.
+use mathlib.Core.Bool.{Bool, false, not, _&&_, _||_}
+use mathlib.Core.List.{List, [], _∷_}
+use Prim.Native.Nat.{ℕ}
+use lib.Dec.{eqb}
+use Rattle.columns.specs.Column.{Bytes}
+use Rattle.network.specs.Network.{Network}
+use Rattle.blocks.specs.Kind.{RedstoneBlock, isDust, isSwitch, isSource, isDiode}
+use Rattle.places.specs.Places.{horizontals, beside, above, below, samePos, adjacent, isAt}
+use Rattle.world.specs.Rows.{rows, posOf, kindOf, supportOf}
+use Rattle.world.specs.Traits.{traits, conducts}
+use Rattle.connectivity.specs.Ports.{outputOf}
+use Rattle.wire.specs.Arms.{hasArm}
+use Rattle.wire.specs.Transfer.{transmits}
+
+-- some facing of the list passes the test
+abbrev pub someOf : (ℕ → Bool) → List ℕ → Bool
+someOf test [] = false
+someOf test (f ∷ fs) = test f || someOf test fs
+
+module _ (p t : Bytes) (j i : ℕ) where
+  -- row j is a repeater or comparator, and its output is row i
+  unfoldable pub outputsTo : Bool
+  outputsTo = isDiode (kindOf t j) && isAt (outputOf t j) (posOf t i)
+
+  -- row i is the support of the lever, button or plate j
+  unfoldable pub isHeldBy : Bool
+  isHeldBy = isSwitch (kindOf t j) && isAt (supportOf t j) (posOf t i)
+
+  -- row i is one of the six neighbours of the redstone block j
+  unfoldable pub isCharged : Bool
+  isCharged = eqb (kindOf t j) RedstoneBlock && adjacent (posOf t j) (posOf t i)
+
+  -- "Strong power: lever, button, plate reach their support, repeater and comparator their output, redstone block its six
+  -- neighbours, where the target receives strong"
+  unfoldable pub strongly : Bool
+  strongly = traits p t i .strong && (isHeldBy || (outputsTo || isCharged))
+
+  -- "a strongly powered block reaches its six neighbours .. where the target receives weak"
+  unfoldable pub through : Bool
+  through = traits p t i .weak && adjacent (posOf t j) (posOf t i)
+
+  -- row i is beside dust j along the facing f, and j has that arm
+  unfoldable pub armTo : ℕ → Bool
+  armTo f = samePos (beside (posOf t j) f) (posOf t i) && hasArm p t j f
+
+  -- "along its arms", of dust j
+  unfoldable pub alongArm : Bool
+  alongArm = someOf armTo horizontals
+
+  -- "dust reaches the block below and along its arms, where the target receives weak"
+  unfoldable pub under : Bool
+  under = isDust (kindOf t j) && (traits p t i .weak && (samePos (below (posOf t j)) (posOf t i) || alongArm))
+
+-- what arrives at the dust i
+module _ (p t : Bytes) (j i : ℕ) where
+  -- "from above, below and along its arms": row j is there
+  unfoldable pub touches : Bool
+  touches =
+      samePos (above (posOf t i)) (posOf t j) || (samePos (below (posOf t i)) (posOf t j) || alongArm p t i j)
+
+  -- "the emitted level of lever, button, plate, torch, redstone block, or of a repeater or comparator whose output is this dust"
+  unfoldable pub feeds : Bool
+  feeds = isSource (kindOf t j) || outputsTo p t j i
+
+  -- the direct level is the emitted level
+  unfoldable pub lights : Bool
+  lights = isDust (kindOf t i) && (feeds && touches)
+
+  -- "otherwise strong power where the neighbour drives dust"
+  unfoldable pub drives : Bool
+  drives = isDust (kindOf t i) && (not feeds && (traits p t j .drives && touches))
+
+-- "The map holds the rows that receive weak or strong"
+unfoldable pub networkOf : Bytes → Bytes → Network
+networkOf p t =
+    record {
+      size = rows t;
+      dust = λ i. isDust (kindOf t i);
+      mapped = λ i. conducts (traits p t i);
+      strongly = strongly p t;
+      through = through p t;
+      under = under p t;
+      transmits = transmits p t;
+      lights = lights p t;
+      drives = drives p t;
+    }

@@ -1,0 +1,3 @@
+pub mod Emitted
+pub mod Edges
+pub mod Answer
