@@ -1,6 +1,8 @@
--- `connectivity::input_of` meets its contract. Assumes nothing.
+-- `connectivity::input_of` meets its contract: its facing is the opposite one. Assumes nothing.
+use mathlib.Core.Path.{ap, ap₂, _∙_}
 use borrow.Author.Needs.{needs}
-use Rattle.connectivity.specs.Ports.{inputOf}
+use Rattle.places.specs.Places.{opposite}
+use Rattle.connectivity.specs.Ports.{ahead, inputOf}
 use Rattle.connectivity.proofs.input_of.Statement.{statement}
 use Rattle.connectivity.proofs.input_of.Tie as tie
 
@@ -18,7 +20,9 @@ ahead-requires c κs = search needs
 
 returns : tie.Need-returns
 unfolding inputOf
-returns c = cc
+returns c =
+    let f = c .before .before .before .facing-of in
+    c .ahead .ensures ∙ ap₂ ahead (c .before .pos-of .ensures) (c .before .before .opposite .ensures ∙ ap opposite (f .ensures))
 
 pub input-of-spec : {M : Type 1} → statement M
 input-of-spec =
