@@ -1,13 +1,15 @@
 -- Laws of the first index at which a test holds, and of the loop that looks for it.
 -- Assumes nothing.
-use mathlib.Core.Path.{_≡_, refl, ap}
+use mathlib.Core.Path.{_≡_, refl, ap, sym, _∙_}
 use mathlib.Core.Logic.{_⊎_, inl, inr, ⊎-elim}
-use mathlib.Core.Bool.{Bool, true, false}
+use mathlib.Core.Bool.{Bool, true, false, _&&_, true≢false}
 use Prim.Native.Nat.{ℕ, zero, suc, _+_, _-_, _≤_, _<_}
-use native.Mathlib.Nat.{eq-or-lt-of-le}
+use native.Mathlib.Nat.{eq-or-lt-of-le, not-suc-le-zero, le-of-suc-le-suc}
+use native.Mathlib.Numerals.{add-one}
 use native.Mathlib.Omega.{arith}
 use Rattle.columns.specs.declared.Found.the-variants.{At, Nothing}
-use Rattle.columns.specs.First.{foundIf, firstFrom}
+use Rattle.columns.proofs.Truth.{and-false-left, and-false-right}
+use Rattle.columns.specs.First.{foundIf, firstFrom, allBelow}
 
 -- k is the first number from i on, below i + n, at which f holds
 pub record IsFirst (f : ℕ → Bool) (i n k : ℕ) : Type 0 where
@@ -83,3 +85,20 @@ module _ (f : ℕ → Bool) (n i : ℕ) (h : i < n) where
 pub scan-over : (f : ℕ → Bool) (n i : ℕ) → n ≤ i → firstFrom f (n - i) i ≡ Nothing
 unfolding firstFrom
 scan-over f n i h = let e : n - i ≡ 0 = omega arith in rw e
+
+-- ---- a loop that tests every index below n
+
+pub all-more : (f : ℕ → Bool) (k : ℕ) → allBelow f k ≡ true → f k ≡ true → allBelow f (k + 1) ≡ true
+all-more f k h e = rw (add-one k, h, e)
+
+pub all-fails : (f : ℕ → Bool) (n k : ℕ) → k < n → f k ≡ false → allBelow f n ≡ false
+all-fails f zero k h e = absurd (not-suc-le-zero h)
+all-fails f (suc n) k h e = ⊎-elim (λ p. and-false-right (allBelow f n) (f n) (rw (← p) e)) (λ l. and-false-left (allBelow f n) (f n) (all-fails f n k l e)) (eq-or-lt-of-le (le-of-suc-le-suc h))
+
+-- what holds of all below n holds of each
+pub all-at : (f : ℕ → Bool) (n : ℕ) → allBelow f n ≡ true → (k : ℕ) → k < n → f k ≡ true
+all-at f n h k l = go (f k) refl
+  where
+    go : (b : Bool) → f k ≡ b → f k ≡ true
+    go true e = e
+    go false e = absurd (true≢false (sym h ∙ all-fails f n k l e))

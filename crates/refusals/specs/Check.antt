@@ -31,6 +31,10 @@ abbrev pub orElse : Checked → Checked → Checked
 orElse Accepted next = next
 orElse (Refused n i) next = Refused n i
 
+-- the first refusal, or the refusal where one more test fails
+abbrev pub also : Checked → ℕ → Bool → Checked
+also c n passed = orElse c (refuseUnless n passed Accepted)
+
 -- ---- the tests of a profile and a table
 
 -- 4 bad row: "a field outside the layout"

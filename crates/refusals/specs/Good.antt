@@ -11,9 +11,13 @@ use Rattle.columns.specs.First.{allBelow}
 use Rattle.places.specs.declared.Pos.{Pos}
 use Rattle.world.specs.Rows.{byteOf, posOf}
 
--- not "not 13 bytes, Air not 0, or a byte above 31"
+-- none of the 13 bytes is above 31
+abbrev pub lowBytes : Bytes → Bool
+lowBytes p = allBelow (λ k. leb (getD p k 0) 31) 13
+
+-- 1 profile: "not 13 bytes, Air not 0, or a byte above 31" is none of it
 unfoldable pub goodProfile : Bytes → Bool
-goodProfile p = eqb (length p) 13 && (eqb (getD p 0 0) 0 && allBelow (λ k. leb (getD p k 0) 31) 13)
+goodProfile p = eqb (length p) 13 && (eqb (getD p 0 0) 0 && lowBytes p)
 
 -- "each from -1,000,000 to 1,000,000"
 abbrev pub inRange : ℤ → Bool

@@ -3,29 +3,29 @@ use columns::byte_at;
 use places::Pos;
 use world::row::byte_of;
 ghost use mathlib.Core.Path.{_≡_};
+ghost use Prim.Native.Nat.{_<_};
 ghost use lib.IntN.{ℤ};
-ghost use Rattle.refusals.specs.Good.{goodProfile, inRange, goodPlace, goodKind, goodValue, isUnit, goodSupport, goodArms, goodTail, goodRow};
+ghost use Rattle.refusals.specs.Good.{lowBytes, goodProfile, inRange, goodPlace, goodKind, goodValue, isUnit, goodSupport, goodArms, goodTail, goodRow};
 
-// Whether the byte of each kind from one on, four of them, is at most 31.
-fn low_four(profile: &[u8], from: usize) -> bool
-    requires { ⌜ from < 16 ⌝ }
-    ensures { λ r. ⌜ r ≡ lowFour (now (profile .entry)) from ⌝ }
+// Whether none of the 13 bytes is above 31.
+fn low_bytes(profile: &[u8]) -> bool
+    ensures { λ r. ⌜ r ≡ lowBytes (now (profile .entry)) ⌝ }
 {
-    (byte_at(profile, from) <= 31)
-        & (byte_at(profile, from + 1) <= 31)
-        & (byte_at(profile, from + 2) <= 31)
-        & (byte_at(profile, from + 3) <= 31)
+    let mut k = 0;
+    while k < 13 {
+        if 31 < byte_at(profile, k) {
+            return false;
+        }
+        k += 1;
+    }
+    true
 }
 
 // Whether a profile has 13 bytes, 0 for Air and none above 31.
 pub fn good_profile(profile: &[u8]) -> bool
     ensures { λ r. ⌜ r ≡ goodProfile (now (profile .entry)) ⌝ }
 {
-    (profile.len() == 13)
-        & ((byte_at(profile, 0) == 0)
-            & low_four(profile, 1)
-            & low_four(profile, 5)
-            & low_four(profile, 9))
+    (profile.len() == 13) & ((byte_at(profile, 0) == 0) & low_bytes(profile))
 }
 
 fn in_range(c: i32) -> bool

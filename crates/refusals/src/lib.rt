@@ -6,7 +6,7 @@ use columns::Found;
 ghost use mathlib.Core.Path.{_≡_};
 ghost use Prim.Native.Nat.{_≤_};
 ghost use lib.ListN.{length};
-ghost use Rattle.refusals.specs.Check.{checkRows, checkTable, checkInput, answerOf};
+ghost use Rattle.refusals.specs.Check.{checkRows, checkTable, checkInput, also, answerOf};
 
 // Whether the inputs are accepted, or the number of the refusal that falls on them and the row at fault.
 pub enum Checked {
@@ -56,6 +56,19 @@ pub fn check_input(profile: &[u8], table: &[u8]) -> Checked
         return check_table(table);
     }
     Checked::Refused { number: 1, row: 0 }
+}
+
+// One test more, after those that were made already.
+pub fn also(checked: Checked, number: u8, passed: bool) -> Checked
+    ensures { λ r. ⌜ r ≡ also checked number passed ⌝ }
+{
+    if let Checked::Refused { number: _, row: _ } = checked {
+        return checked;
+    }
+    if passed {
+        return checked;
+    }
+    Checked::Refused { number, row: 0 }
 }
 
 // The number that a call answers: 65,536 times the refusal's number plus the row, or the result of a call that is not refused.

@@ -1,25 +1,29 @@
+-- `refusals::good::good_place` meets its contract: a coordinate that is handed on is read back from its bits. Assumes nothing.
+use mir.Syntax.{w32}
+use mir.Val.{SFits}
+use Rattle.places.proofs.Signs.{back32}
+use Rattle.refusals.specs.Good.{goodPlace}
 use borrow.Author.Needs.{needs}
 use Rattle.refusals.proofs.good.good_place.Statement.{statement}
 use Rattle.refusals.proofs.good.good_place.Tie as tie
-use Rattle.refusals.proofs.good.good_place.Reads as reads
-use Rattle.refusals.proofs.good.good_place.Lts as lts
-use Rattle.refusals.proofs.good.in_range.Reads as in-range-reads
 
--- src/good.rt:40:5
 in-range-requires : tie.Need-in-range-requires
 in-range-requires c κs = search needs
 
--- src/good.rt:40:21
 in-range-requires-2 : tie.Need-in-range-requires-2
 in-range-requires-2 c κs = search needs
 
--- src/good.rt:40:37
 in-range-requires-3 : tie.Need-in-range-requires-3
 in-range-requires-3 c κs = search needs
 
--- src/good.rt:37:1
 returns : tie.Need-returns
-returns c = ?
+unfolding goodPlace
+returns c =
+    let s = c .before .before .before .before .before .before in
+    let fx : SFits w32 (s .args .q .x) = search needs in
+    let fy : SFits w32 (s .args .q .y) = search needs in
+    let fz : SFits w32 (s .args .q .z) = search needs in
+    rw (c .before .before .before .before .in-range .ensures, c .before .before .in-range2 .ensures, c .in-range3 .ensures) (simp back32)
 
 pub good-place-spec : {M : Type 1} → statement M
 good-place-spec =

@@ -1,42 +1,48 @@
+-- `refusals::scan::first_bad` meets its contract. The loop's invariant: the answer is that of the search from row i on. Assumes nothing.
+use borrow.Author.Needs.{needs}
+use mathlib.Core.Path.{_≡_, refl, sym, ap, _∙_}
+use mathlib.Core.Bool.{true, false, not}
+use Prim.Native.Nat.{_+_, _-_, _≤_}
+use native.Mathlib.Nat.{sub-zero}
+use native.Mathlib.Omega.{arith}
+use Rattle.columns.specs.First.{firstFrom}
+use Rattle.columns.proofs.First.{scan-hit, scan-miss, scan-over}
+use Rattle.refusals.specs.Check.{isBad}
 use Rattle.refusals.proofs.scan.first_bad.Statement.{statement}
 use Rattle.refusals.proofs.scan.first_bad.Tie as tie
-use Rattle.refusals.proofs.scan.first_bad.Reads as reads
-use Rattle.refusals.proofs.scan.first_bad.Lts as lts
-use Rattle.refusals.proofs.good.good_row.Reads as good-row-reads
 
 abbrev Inv-loop : tie.InvT-loop
-Inv-loop table rows i₀ i = ?
+Inv-loop table rows i₀ i = (i ≤ rows) × (firstFrom (isBad table) rows 0 ≡ firstFrom (isBad table) (rows - i) i)
 
 abbrev μ-loop : tie.MeasureT-loop
-μ-loop table rows i₀ i = ?
+μ-loop table rows i₀ i = rows - i
 
--- src/scan.rt:14:5
 loop-holds : tie.Need-loop-holds Inv-loop μ-loop
-loop-holds c = ?
+loop-holds c = (omega arith, rw sub-zero)
 
--- src/scan.rt:15:12
 good-row-requires : tie.Need-good-row-requires Inv-loop μ-loop
-good-row-requires c κs = ?
+good-row-requires c κs = search needs
 
--- src/scan.rt:16:13
 add-i : tie.Need-add-i Inv-loop μ-loop
-add-i c = ?
+add-i c = omega arith
 
--- src/scan.rt:14:5
 loop-less : tie.Need-loop-less Inv-loop μ-loop
-loop-less c = ?
+loop-less c = omega arith
 
--- src/scan.rt:14:5
 loop-again : tie.Need-loop-again Inv-loop μ-loop
-loop-again c = ?
+loop-again c =
+    let l = c .before .before .before in
+    let e : isBad (l .before .before .args .table .now) (l .loop .i) ≡ false = ap not (sym (c .before .good-row .ensures) ∙ c .if1 .taken) in
+    (omega arith, l .loop .inv .1 ∙ scan-miss _ _ _ (omega arith) e)
 
--- src/scan.rt:18:13
 returns : tie.Need-returns Inv-loop μ-loop
-returns c = ?
+returns c =
+    let l = c .before .before .before in
+    let e : isBad (l .before .before .args .table .now) (l .loop .i) ≡ true = ap not (sym (c .before .good-row .ensures) ∙ c .if1 .left) in
+    sym (l .loop .inv .1 ∙ scan-hit _ _ _ (omega arith) e)
 
--- src/scan.rt:10:1
 returns-2 : tie.Need-returns-2 Inv-loop μ-loop
-returns-2 c = ?
+returns-2 c = sym (c .before .loop .inv .1 ∙ scan-over _ _ _ (omega arith))
 
 pub first-bad-spec : {M : Type 1} → statement M
 first-bad-spec =

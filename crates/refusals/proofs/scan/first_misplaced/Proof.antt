@@ -1,59 +1,63 @@
+-- `refusals::scan::first_misplaced` meets its contract. The loop's invariant: the answer is that of the search from row i - 1 on. Assumes nothing.
+use borrow.Author.Needs.{needs}
+use mathlib.Core.Path.{_≡_, refl, sym, ap, _∙_}
+use mathlib.Core.Bool.{true, false, not}
+use Prim.Native.Nat.{_+_, _-_, _≤_}
+use native.Mathlib.Nat.{sub-zero}
+use native.Mathlib.Omega.{arith}
+use Rattle.columns.specs.First.{firstFrom}
+use Rattle.columns.proofs.First.{scan-hit, scan-miss, scan-over}
+use Rattle.refusals.specs.Check.{isMisplaced}
 use Rattle.refusals.proofs.scan.first_misplaced.Statement.{statement}
 use Rattle.refusals.proofs.scan.first_misplaced.Tie as tie
-use Rattle.refusals.proofs.scan.first_misplaced.Reads as reads
-use Rattle.refusals.proofs.scan.first_misplaced.Lts as lts
-use Rattle.places.proofs.Pos.before.Reads as before-reads
-use Rattle.world.proofs.row.pos_of.Reads as pos-of-reads
 
 abbrev Inv-loop : tie.InvT-loop
-Inv-loop table rows i₀ i = ?
+Inv-loop table rows i₀ i = (1 ≤ i) × (i - 1 ≤ rows) × (firstFrom (isMisplaced table) (rows - 1) 0 ≡ firstFrom (isMisplaced table) (rows - 1 - (i - 1)) (i - 1))
 
 abbrev μ-loop : tie.MeasureT-loop
-μ-loop table rows i₀ i = ?
+μ-loop table rows i₀ i = rows - i
 
--- src/scan.rt:29:5
 loop-holds : tie.Need-loop-holds Inv-loop μ-loop
-loop-holds c = ?
+loop-holds c = (omega arith, omega arith, rw sub-zero)
 
--- src/scan.rt:30:26
 sub-pos-of : tie.Need-sub-pos-of Inv-loop μ-loop
-sub-pos-of c = ?
+sub-pos-of c = omega arith
 
--- src/scan.rt:30:12
 pos-of-requires : tie.Need-pos-of-requires Inv-loop μ-loop
-pos-of-requires c κs = ?
+pos-of-requires c κs = search needs
 
--- src/scan.rt:30:40
 pos-of-requires-2 : tie.Need-pos-of-requires-2 Inv-loop μ-loop
-pos-of-requires-2 c κs = ?
+pos-of-requires-2 c κs = search needs
 
--- src/scan.rt:30:12
 before-requires : tie.Need-before-requires Inv-loop μ-loop
-before-requires c κs = ?
+before-requires c κs = search needs
 
--- src/scan.rt:31:13
 add-i : tie.Need-add-i Inv-loop μ-loop
-add-i c = ?
+add-i c = omega arith
 
--- src/scan.rt:29:5
 loop-less : tie.Need-loop-less Inv-loop μ-loop
-loop-less c = ?
+loop-less c = omega arith
 
--- src/scan.rt:29:5
 loop-again : tie.Need-loop-again Inv-loop μ-loop
-loop-again c = ?
+loop-again c =
+    let l = c .before .before .before .before .before in
+    let k : l .loop .i - 1 + 1 ≡ l .loop .i = omega arith in
+    let m : l .loop .i + 1 - 1 ≡ l .loop .i - 1 + 1 = omega arith in
+    let e : isMisplaced (l .before .before .args .table .now) (l .loop .i - 1) ≡ false = cc in
+    (omega arith, omega arith, rw m (l .loop .inv .2 ∙ scan-miss _ _ _ (omega arith) e))
 
--- src/scan.rt:33:30
 sub-t9 : tie.Need-sub-t9 Inv-loop μ-loop
-sub-t9 c = ?
+sub-t9 c = omega arith
 
--- src/scan.rt:33:13
 returns : tie.Need-returns Inv-loop μ-loop
-returns c = ?
+returns c =
+    let l = c .before .before .before .before .before in
+    let k : l .loop .i - 1 + 1 ≡ l .loop .i = omega arith in
+    let e : isMisplaced (l .before .before .args .table .now) (l .loop .i - 1) ≡ true = cc in
+    sym (l .loop .inv .2 ∙ scan-hit _ _ _ (omega arith) e)
 
--- src/scan.rt:25:1
 returns-2 : tie.Need-returns-2 Inv-loop μ-loop
-returns-2 c = ?
+returns-2 c = sym (c .before .loop .inv .2 ∙ scan-over _ _ _ (omega arith))
 
 pub first-misplaced-spec : {M : Type 1} → statement M
 first-misplaced-spec =

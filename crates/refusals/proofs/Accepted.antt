@@ -1,0 +1,98 @@
+-- Laws of an accepted table: its rows are good and in order, its positions are all different, and the look-up finds each row.
+-- Assumes nothing.
+use mathlib.Core.Path.{_≡_, refl, sym}
+use mathlib.Core.Logic.{by-cases}
+use mathlib.Core.Bool.{Bool, true, false}
+use Prim.Native.Nat.{ℕ, zero, suc, _+_, _*_, _-_, _%_, _≤_, _<_}
+use native.Mathlib.Decide.{decLt}
+use native.Mathlib.Omega.{arith}
+use lib.ListN.{length}
+use lib.Dec.{eqb, leb}
+use borrow.Author.Tests.{eqb-true, leb-true, not-false}
+use Rattle.columns.specs.declared.Found.the-variants.{At}
+use Rattle.columns.specs.Column.{Bytes}
+use Rattle.columns.specs.First.{firstFrom}
+use Rattle.columns.proofs.First.{first-none, at-first}
+use Rattle.places.specs.declared.Pos.{Pos}
+use Rattle.places.specs.Places.{samePos, before}
+use Rattle.places.proofs.Order.{samePos-true, samePos-refl, before-irrefl, before-trans}
+use Rattle.places.proofs.Steps.{InRange}
+use Rattle.world.specs.Rows.{rows, posOf}
+use Rattle.world.specs.Find.{standsAt, find}
+use Rattle.refusals.specs.declared.Checked.the-variants.{Accepted}
+use Rattle.refusals.specs.Good.{goodProfile, goodRow}
+use Rattle.refusals.specs.Check.{isBad, isMisplaced, checkRows, checkTable, checkInput}
+use Rattle.refusals.proofs.Passed.{passed-unless, passed-at}
+use Rattle.refusals.proofs.Fields.{good-fields}
+
+-- ---- an accepted table
+
+pub record Table (t : Bytes) : Type 0 where
+  pub whole : length t ≡ rows t * 32
+  pub few : rows t ≤ 1024
+  pub good : (i : ℕ) → i < rows t → goodRow t i ≡ true
+  pub ordered : (i : ℕ) → i + 1 < rows t → before (posOf t i) (posOf t (i + 1)) ≡ true
+
+pub accepted-table : (t : Bytes) → checkTable t ≡ Accepted → Table t
+unfolding checkTable checkRows
+accepted-table t h =
+    let (a, g) = passed-unless 2 (eqb (length t % 32) 0) _ h in
+    let (b, f) = passed-unless 3 (leb (rows t) 1024) _ g in
+    let (c, e) = passed-at 4 0 (firstFrom (isBad t) (rows t) 0) _ f in
+    let (d, _) = passed-at 5 1 (firstFrom (isMisplaced t) (rows t - 1) 0) _ e in
+    let whole : length t % 32 ≡ 0 = eqb-true _ _ a in
+    record {
+      whole = omega arith;
+      few = leb-true _ _ b;
+      good = λ i l. not-false _ (first-none (isBad t) (rows t) 0 c i (omega arith) (omega arith));
+      ordered = λ i l. not-false _ (first-none (isMisplaced t) (rows t - 1) 0 d i (omega arith) (omega arith));
+    }
+
+-- of a call with the profile
+pub accepted-input : (p t : Bytes) → checkInput p t ≡ Accepted → (goodProfile p ≡ true) × Table t
+unfolding checkInput
+accepted-input p t h = let (a, b) = passed-unless 1 (goodProfile p) _ h in (a, accepted-table t b)
+
+module _ (t : Bytes) (a : Table t) where
+  in-order : (i k : ℕ) → i + suc k < rows t → before (posOf t i) (posOf t (i + suc k)) ≡ true
+  in-order i zero h = a .ordered i h
+  in-order i (suc k) h =
+      let next : i + suc k + 1 ≡ i + suc (suc k) = omega arith in
+      before-trans (posOf t i) (posOf t (i + suc k)) (posOf t (i + suc (suc k)))
+      (in-order i k (omega arith))
+      (rw next at (a .ordered (i + suc k) (omega arith)))
+
+  -- "ordered by x, then y, then z": every row comes before every later row
+  pub later-after : (i j : ℕ) → i < j → j < rows t → before (posOf t i) (posOf t j) ≡ true
+  later-after i j g h = let e : i + suc (j - suc i) ≡ j = omega arith in rw e at (in-order i (j - suc i) (omega arith))
+
+  earlier-differs : (i j : ℕ) → i < j → j < rows t → posOf t i ≡ posOf t j → ⊥
+  earlier-differs i j g h e = before-irrefl (posOf t j) (rw e at (later-after i j g h))
+
+  -- "all positions different"
+  pub different : (i j : ℕ) → i < rows t → j < rows t → posOf t i ≡ posOf t j → i ≡ j
+  different i j g h e =
+      by-cases (decLt i j) (λ l. absurd (earlier-differs i j l h e))
+      (λ m. by-cases (decLt j i) (λ l. absurd (earlier-differs j i l g (sym e))) (λ n. omega arith))
+
+  stands-not : (i j : ℕ) → j < i → i < rows t → samePos (posOf t j) (posOf t i) ≡ false
+  stands-not i j g h = go (samePos (posOf t j) (posOf t i)) refl
+    where
+      go : (b : Bool) → samePos (posOf t j) (posOf t i) ≡ b → samePos (posOf t j) (posOf t i) ≡ false
+      go true p = absurd (earlier-differs j i g h (samePos-true (posOf t j) (posOf t i) p))
+      go false p = p
+
+  -- the look-up finds row i at row i's position
+  pub find-own : (i : ℕ) → i < rows t → find t (posOf t i) ≡ At i
+  unfolding find
+  find-own i h =
+      at-first (standsAt t (posOf t i)) (rows t) 0 i
+      (record { from = omega arith; inside = omega arith; holds = samePos-refl (posOf t i); earlier = λ j _ l. stands-not i j l h })
+
+  -- and at a position where row i stands
+  pub find-at : (q : Pos) (i : ℕ) → i < rows t → posOf t i ≡ q → find t q ≡ At i
+  find-at q i h e = rw e at (find-own i h)
+
+  -- every position is in range
+  pub in-range : (i : ℕ) → i < rows t → InRange (posOf t i)
+  in-range i h = good-fields t i (a .good i h) .place

@@ -1,0 +1,43 @@
+-- `supports::is_supported` meets its contract, by what the look-up finds. Assumes nothing.
+use mathlib.Core.Path.{sym, ap, _∙_}
+use Rattle.supports.specs.Supports.{isSupported}
+use borrow.Author.Needs.{needs}
+use Rattle.supports.proofs.is_supported.Statement.{statement}
+use Rattle.supports.proofs.is_supported.Tie as tie
+
+support-pos-requires : tie.Need-support-pos-requires
+support-pos-requires c κs = search needs
+
+find-at-requires : tie.Need-find-at-requires
+find-at-requires c κs = search needs
+
+enum-known-j : tie.Need-enum-known-j
+enum-known-j c = search needs
+
+enum-told : tie.Need-enum-told
+enum-told c = search needs
+
+returns : tie.Need-returns
+unfolding isSupported
+returns c = rw (← c .before .before .before .support-pos .ensures, sym (c .before .before .find-at .ensures) ∙ c .enum-told .given .1)
+
+redstone-traits-requires : tie.Need-redstone-traits-requires
+redstone-traits-requires c κs = search needs
+
+returns-2 : tie.Need-returns-2
+unfolding isSupported
+returns-2 c =
+    let traits = c .redstone-traits .ensures in
+    rw (← c .before .before .before .before .before .support-pos .ensures, sym (c .before .before .before .before .find-at .ensures) ∙ c .before .before .j .given .1) (ap (λ r. r .supports) traits)
+
+pub is-supported-spec : {M : Type 1} → statement M
+is-supported-spec =
+    tie.close
+    (tie.spec
+    support-pos-requires
+    find-at-requires
+    enum-known-j
+    enum-told
+    returns
+    redstone-traits-requires
+    returns-2)
