@@ -1,0 +1,18 @@
+-- `connectivity::repeater_input_pos` meets its contract. Assumes nothing.
+use borrow.Author.Needs.{needs}
+use Rattle.connectivity.specs.Ports.{repeaterInputPos}
+use Rattle.connectivity.proofs.repeater_input_pos.Statement.{statement}
+use Rattle.connectivity.proofs.repeater_input_pos.Tie as tie
+
+of-kind-requires : tie.Need-of-kind-requires
+of-kind-requires c κs = search needs
+
+input-at-requires : tie.Need-input-at-requires
+input-at-requires c κs = search needs
+
+returns : tie.Need-returns
+unfolding repeaterInputPos
+returns c = cc
+
+pub repeater-input-pos-spec : {M : Type 1} → statement M
+repeater-input-pos-spec = tie.close (tie.spec of-kind-requires input-at-requires returns)

@@ -1,0 +1,57 @@
+-- `wire::transfer::is_rise` meets its contract: the sink is where the test says, and then the rise is asked. Assumes nothing.
+use mathlib.Core.Path.{sym, _∙_}
+use borrow.Author.Needs.{needs}
+use Rattle.wire.specs.Transfer.{isRise}
+use Rattle.wire.proofs.transfer.is_rise.Statement.{statement}
+use Rattle.wire.proofs.transfer.is_rise.Tie as tie
+
+pos-of-requires : tie.Need-pos-of-requires
+pos-of-requires c κs = search needs
+
+beside-requires : tie.Need-beside-requires
+beside-requires c κs = search needs
+
+above-requires : tie.Need-above-requires
+above-requires c κs = search needs
+
+pos-of-requires-2 : tie.Need-pos-of-requires-2
+pos-of-requires-2 c κs = search needs
+
+same-requires : tie.Need-same-requires
+same-requires c κs = search needs
+
+traits-at-requires : tie.Need-traits-at-requires
+traits-at-requires c κs = search needs
+
+arm-of-requires : tie.Need-arm-of-requires
+arm-of-requires c κs = search needs
+
+rises-by-requires : tie.Need-rises-by-requires
+rises-by-requires c κs = search needs
+
+returns : tie.Need-returns
+unfolding isRise
+returns c =
+    let at = c .before .before .before .before in
+    rw (← at .before .before .before .before .pos-of .ensures, ← at .before .before .before .beside .ensures, ← at .before .before .above .ensures, ← at .before .pos-of2 .ensures, sym (at .same .ensures) ∙ c .before .before .before .if1 .taken) (cc)
+
+returns-2 : tie.Need-returns-2
+unfolding isRise
+returns-2 c =
+    let at = c .before in
+    rw (← at .before .before .before .before .pos-of .ensures, ← at .before .before .before .beside .ensures, ← at .before .before .above .ensures, ← at .before .pos-of2 .ensures, sym (at .same .ensures) ∙ c .if1 .left)
+
+pub is-rise-spec : {M : Type 1} → statement M
+is-rise-spec =
+    tie.close
+    (tie.spec
+    pos-of-requires
+    beside-requires
+    above-requires
+    pos-of-requires-2
+    same-requires
+    traits-at-requires
+    arm-of-requires
+    rises-by-requires
+    returns
+    returns-2)

@@ -1,0 +1,81 @@
+-- `dust_transfer`: the rule by which power goes from one dust to another.
+-- Assumes nothing.
+use mathlib.Core.Bool.{Bool, true, false, cond, _&&_}
+use mathlib.Core.List.{List, [], _∷_}
+use Prim.Native.Nat.{ℕ}
+use lib.Dec.{eqb}
+use Rattle.blocks.specs.Kind.{isDust}
+use Rattle.columns.specs.Column.{Bytes}
+use Rattle.columns.specs.First.{onFound}
+use Rattle.places.specs.declared.Pos.{Pos}
+use Rattle.places.specs.Places.{horizontals, opposite, beside, above, below, samePos}
+use Rattle.world.specs.Rows.{posOf, kindOf}
+use Rattle.world.specs.Find.{find}
+use Rattle.world.specs.Traits.{traitsAt, risesBy}
+use Rattle.wire.specs.Arms.{armOf, hasArm}
+use Rattle.wire.specs.declared.transfer.DustTransfer.{DustTransfer}
+use Rattle.wire.specs.declared.transfer.DustTransfer.the-variants.{Horizontal, Rise, FallThroughConductor, NoTransfer}
+
+-- ---- from the source, row j, to the sink, row i, along the facing f
+
+module _ (p t : Bytes) (j i f : ℕ) where
+  -- "Horizontal, sink beside and both have the arm"
+  unfoldable pub isLevel : Bool
+  isLevel = samePos (beside (posOf t j) f) (posOf t i) && (hasArm p t j f && hasArm p t i (opposite f))
+
+  -- "Rise, sink above the cell beside, whose rise equals the source's arm"
+  unfoldable pub isRise : Bool
+  isRise = samePos (above (beside (posOf t j) f)) (posOf t i) && risesBy (traitsAt p t (beside (posOf t j) f)) (armOf p t j f)
+
+  -- "FallThroughConductor, sink below the cell beside, the block under the source drives dust and its rise equals the sink's arm back"
+  unfoldable pub isFall : Bool
+  isFall =
+      samePos (below (beside (posOf t j) f)) (posOf t i)
+      && (traitsAt p t (below (posOf t j)) .drives && risesBy (traitsAt p t (below (posOf t j))) (armOf p t i (opposite f)))
+
+  -- the rules by the height step of the sink: 0 level, 1 up, 2 down
+  unfoldable pub fits : ℕ → Bool
+  fits step = cond (eqb step 0) isLevel (cond (eqb step 1) isRise isFall)
+
+  -- the first rule that fits along f
+  unfoldable pub ruleAlong : DustTransfer
+  ruleAlong = cond isLevel Horizontal (cond isRise Rise (cond isFall FallThroughConductor NoTransfer))
+
+abbrev pub ruleOf : ℕ → DustTransfer
+ruleOf step = cond (eqb step 0) Horizontal (cond (eqb step 1) Rise FallThroughConductor)
+
+-- ---- along any facing
+
+abbrev pub orRule : DustTransfer → DustTransfer → DustTransfer
+orRule Horizontal later = Horizontal
+orRule Rise later = Rise
+orRule FallThroughConductor later = FallThroughConductor
+orRule NoTransfer later = later
+
+-- the first facing along which a rule fits; "None where no facing fits"
+unfoldable pub firstRule : (ℕ → DustTransfer) → List ℕ → DustTransfer
+firstRule rule [] = NoTransfer
+firstRule rule (f ∷ fs) = orRule (rule f) (firstRule rule fs)
+
+-- "`dust_transfer` between dusts"
+unfoldable pub transferOf : Bytes → Bytes → ℕ → ℕ → DustTransfer
+transferOf p t j i = cond (isDust (kindOf t j) && isDust (kindOf t i)) (firstRule (ruleAlong p t j i) horizontals) NoTransfer
+
+-- between what stands at two positions
+unfoldable pub dustTransfer : Bytes → Bytes → Pos → Pos → DustTransfer
+dustTransfer p t source sink = onFound (λ j. onFound (transferOf p t j) NoTransfer (find t sink)) NoTransfer (find t source)
+
+-- ---- any rule at all
+
+abbrev pub isTransfer : DustTransfer → Bool
+isTransfer Horizontal = true
+isTransfer Rise = true
+isTransfer FallThroughConductor = true
+isTransfer NoTransfer = false
+
+-- row j transmits to row i
+unfoldable pub transmits : Bytes → Bytes → ℕ → ℕ → Bool
+transmits p t j i = isTransfer (transferOf p t j i)
+
+unfoldable pub dustTransmits : Bytes → Bytes → Pos → Pos → Bool
+dustTransmits p t source sink = isTransfer (dustTransfer p t source sink)
