@@ -2,14 +2,17 @@
 -- Assumes nothing.
 use mathlib.Core.Path.{_≡_, ap, _∙_}
 use mathlib.Core.Bool.{Bool, true, false, cond}
-use Prim.Native.Nat.{ℕ, zero, suc, _≤_, zero-le}
+use mathlib.Core.Logic.{by-cases}
+use Prim.Native.Nat.{ℕ, zero, suc, _≤_, _<_, zero-le}
 use native.Mathlib.Nat.{le-refl, le-trans, min-le-left}
+use native.Mathlib.Decide.{decLt}
 use native.Mathlib.Omega.{arith}
 use lib.Dec.{eqb, eqb·suc-zero}
 use Rattle.columns.specs.Column.{Bytes, Column, row}
 use Rattle.columns.specs.Signal.{maxSignal}
 use Rattle.network.specs.Compare.{Larger, Rows}
-use Rattle.network.specs.Laws.Kept.{tabulate-kept}
+use Rattle.columns.proofs.Columns.{row-tabulate}
+use Rattle.network.specs.Laws.Kept.{row-past, tabulate-kept}
 use Rattle.network.specs.Laws.Join.{larger-kept, rises-larger}
 use Rattle.blocks.specs.Kind.{Comparator, RedstoneBlock, isSwitch}
 use Rattle.world.specs.Rows.{rows, kindOf, isPowered}
@@ -48,3 +51,10 @@ level-byte t i b m cap h =
     either (eqb (kindOf t i) RedstoneBlock) cap
     (either (isSwitch (kindOf t i)) (either (isPowered t i) (le-trans (min-le-left 15 _) cap) zero-le)
     (either (isOnOff (kindOf t i)) (either (eqb b 0) zero-le cap) (either (eqb (kindOf t i) Comparator) h zero-le)))
+
+-- and so is a row of the column of them
+pub emitted-byte : (t : Bytes) (d : Column) (m : ℕ) → maxSignal ≤ m → ((i : ℕ) → row d i ≤ m) → (i : ℕ) → row (emitted t d) i ≤ m
+unfolding emitted
+emitted-byte t d m cap h i =
+    by-cases (decLt i (rows t)) (λ l. rw (row-tabulate (rows t) _ i l) (level-byte t i (row d i) m cap (h i)))
+    (λ n. rw (row-past (rows t) (λ i. emittedLevel t i (row d i)) i (omega arith)) zero-le)

@@ -1,1 +1,1 @@
-// x
+// Settling: emitted levels, what reaches what, and the network of a table.
