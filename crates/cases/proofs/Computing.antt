@@ -1,0 +1,28 @@
+-- Every definition that a test computes with, named once: a declaration that says `unfolding computing` unfolds them all.
+-- Assumes nothing.
+use Prim.Native.Nat.{ℕ}
+use Rattle.columns.specs.Column.{tabulateFrom, joinedFrom, same}
+use Rattle.columns.specs.First.{firstFrom, indicesFrom}
+use Rattle.network.specs.Computing.{computing as settling}
+use Rattle.blocks.specs.Profile.{says}
+use Rattle.places.specs.Signed.{signed32, signed8, clamp32, satAdd}
+use Rattle.places.specs.Places.{samePos, before, opposite, step, horizontalOffset, beside, adjacent}
+use Rattle.world.specs.Rows.{posOf, supportOf, storedArm}
+use Rattle.world.specs.Find.{find, kindAt}
+use Rattle.world.specs.Traits.{plain, ofShape, traits, traitsAt}
+use Rattle.refusals.specs.Good.{goodProfile, goodPlace, goodRow}
+use Rattle.refusals.specs.Check.{checkRows, checkTable, checkInput}
+use Rattle.connectivity.specs.Ports.{ahead, outputOf, inputOf, across, sidesOf}
+use Rattle.wire.specs.Arms.{connects, componentConnects, joins, rises, drops, inferPast, inferWireConnection, armOf, hasArm}
+use Rattle.wire.specs.Transfer.{isLevel, isRise, isFall, fits, ruleAlong, firstRule, transferOf, dustTransfer, transmits}
+use Rattle.electrical.specs.Emitted.{goodDevice, checkDevices, switchLevel, emittedLevel, emitted}
+use Rattle.electrical.specs.Edges.{outputsTo, isHeldBy, isCharged, strongly, through, armTo, alongArm, under, touches, feeds, lights, drives, networkOf}
+use Rattle.electrical.specs.Answer.{roundsOf, settled, checkCall, checkSettle}
+use Rattle.sim.specs.State.{devicesOf, delayOf, bitsSet, isCandidate, goodQueue, goodLamp, goodTorch, goodState, checkState}
+use Rattle.sim.specs.Fresh.{freshDevice, freshDevices, freshQueue, freshLamp, freshRow, freshState}
+use Rattle.sim.specs.Tick.{repeaterInputLevel, isRequested, locksFrom, isLocked, nextQueue, repeaterRow, nextTorch, nextToggles, nextCandidate, torchRow, compared, nextComparator, deviceRow, nextLit, nextLeft, lampRow, settledOf, setDevices, setLamps, tick, ticks}
+use Rattle.sim.specs.Calls.{checkFresh, checkStep, checkTick, switched}
+
+unfoldable pub computing : ℕ
+unfolding tabulateFrom joinedFrom same firstFrom indicesFrom settling says signed32 signed8 clamp32 satAdd samePos before opposite step horizontalOffset beside adjacent posOf supportOf storedArm find kindAt plain ofShape traits traitsAt goodProfile goodPlace goodRow checkRows checkTable checkInput ahead outputOf inputOf across sidesOf connects componentConnects joins rises drops inferPast inferWireConnection armOf hasArm isLevel isRise isFall fits ruleAlong firstRule transferOf dustTransfer transmits goodDevice checkDevices switchLevel emittedLevel emitted outputsTo isHeldBy isCharged strongly through armTo alongArm under touches feeds lights drives networkOf roundsOf settled checkCall checkSettle devicesOf delayOf bitsSet isCandidate goodQueue goodLamp goodTorch goodState checkState freshDevice freshDevices freshQueue freshLamp freshRow freshState repeaterInputLevel isRequested locksFrom isLocked nextQueue repeaterRow nextTorch nextToggles nextCandidate torchRow compared nextComparator deviceRow nextLit nextLeft lampRow settledOf setDevices setLamps tick ticks checkFresh checkStep checkTick switched
+computing = 0

@@ -1,0 +1,1 @@
+// The tick simulator over a packed state of sixteen bytes a row.
