@@ -1,0 +1,2 @@
+-- Laws of redrawn tables, whole and half done.
+pub mod Rows
