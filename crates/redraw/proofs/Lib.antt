@@ -1,2 +1,4 @@
--- Laws of redrawn tables, whole and half done.
+-- Laws of redrawn tables.
 pub mod Rows
+pub mod Redrawn
+pub mod Accepted

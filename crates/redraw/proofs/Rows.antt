@@ -39,7 +39,7 @@ module _ (b : ℕ) (k : Kept b) where
 
 module _ (p t : Bytes) (i : ℕ) where
   -- a row is redrawn or as it was
-  by-kind : (P : Bytes → Type 0) → P (drawn (part 32 t i) (withOpposite (entriesOf p t i))) → P (part 32 t i) → P (redrawnRow p t i)
+  pub by-kind : (P : Bytes → Type 0) → P (drawn (part 32 t i) (withOpposite (entriesOf p t i))) → P (part 32 t i) → P (redrawnRow p t i)
   unfolding redrawnRow
   by-kind P d o = go (isDust (kindOf t i))
     where
