@@ -1,9 +1,9 @@
 -- Laws of the redrawn table: every byte but the arms as it was. So its rows, kinds, positions, look-ups, traits and inferred arms are
 -- those of the table: `redrawn-alike` with the laws of `wire`'s Alike.
 -- Assumes nothing.
-use mathlib.Core.Path.{_≡_, sym, _∙_}
+use mathlib.Core.Path.{_≡_}
 use mathlib.Core.List.{[], append-nil}
-use Prim.Native.Nat.{ℕ, _+_, _*_, _<_}
+use Prim.Native.Nat.{ℕ, _*_, _<_}
 use native.Mathlib.Omega.{arith}
 use lib.ListN.{length, getD, drop}
 use lib.Seq.{drop-length}

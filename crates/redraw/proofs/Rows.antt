@@ -1,6 +1,6 @@
 -- Laws of a redrawn row, and of a table whose first rows are redrawn: it infers as it did, and so redraws as it would have.
 -- Assumes nothing.
-use mathlib.Core.Path.{_≡_, refl, ap, sym, _∙_}
+use mathlib.Core.Path.{_≡_, ap, _∙_}
 use mathlib.Core.Logic.{_⊎_, inl, inr, ⊎-elim, by-cases}
 use mathlib.Core.Bool.{Bool, true, false, cond}
 use mathlib.Core.List.{_++_}
@@ -14,7 +14,7 @@ use Rattle.columns.specs.Column.{Bytes, part, joined}
 use Rattle.columns.proofs.Parts.{length-part, part-at, joined-at, Written, written-lent}
 use Rattle.places.specs.Places.{North, East, South, West}
 use Rattle.world.specs.Rows.{byteOf, posOf, kindOf}
-use Rattle.wire.proofs.Alike.{Read, Alike, same-kind, same-place, same-infer}
+use Rattle.wire.proofs.Alike.{Alike, same-kind, same-place, same-infer}
 use Rattle.redraw.specs.declared.Arms.{Arms}
 use Rattle.redraw.specs.Redraw.{entryOf, entriesOf, withOpposite, drawn, redrawnRow}
 

@@ -108,7 +108,7 @@ fn redraw_row(profile: &[u8], table: &mut [u8], row: usize)
     draw(&mut table[start..end], arms);
 }
 
-// Row after row in place: inference reads no byte that is written here, so each row sees the arms as they were.
+// Row after row in place: inference reads no byte that is written here, so each row is drawn as from the table that came.
 fn redraw(profile: &[u8], table: &mut [u8])
     requires { ⌜ length (now table) ≡ rows (now table) * 32 ⌝ }
     ensures { λ _. ⌜ now (table .exit) ≡ updateWireShapes (now (profile .entry)) (now (table .entry)) ⌝ }

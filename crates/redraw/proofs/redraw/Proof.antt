@@ -1,19 +1,14 @@
 -- `redraw::redraw` meets its contract. The loop's invariant: the first i rows are drawn anew and the rest is as it was. Assumes nothing.
-use mathlib.Core.Path.{_≡_, refl, sym, _∙_}
-use Prim.Native.Nat.{_*_, _-_, _≤_}
+use mathlib.Core.Path.{_≡_, refl, _∙_}
+use Prim.Native.Nat.{_-_, _≤_}
 use native.Mathlib.Omega.{arith}
 use lib.ListN.{length}
-use borrow.Rule.Slice.PartMut.{same-len-mid}
 use borrow.Author.Needs.{needs}
 use Rattle.columns.proofs.Parts.{Written, written-none, written-more, written-all}
 use Rattle.redraw.specs.Redraw.{redrawnRow, updateWireShapes}
-use Rattle.redraw.proofs.Rows.{length-row, half-long, half-row}
+use Rattle.redraw.proofs.Rows.{length-row, half-row}
 use Rattle.redraw.proofs.redraw.Statement.{statement}
 use Rattle.redraw.proofs.redraw.Tie as tie
-use Rattle.redraw.proofs.redraw.Reads as reads
-use Rattle.redraw.proofs.redraw.Lts as lts
-use Rattle.redraw.proofs.redraw_row.Reads as redraw-row-reads
-use Rattle.world.proofs.row.rows.Reads as rows-reads
 
 abbrev Inv-loop : tie.InvT-loop
 Inv-loop profile table₀ n i₀ table i = (i ≤ n) × (length table ≡ length table₀) × Written 32 (redrawnRow profile table₀) table₀ i table

@@ -1,16 +1,9 @@
 -- `redraw::update_wire_shapes` meets its contract, by what the checks answer. Assumes nothing.
-use mathlib.Core.Path.{_≡_, sym, _∙_}
+use mathlib.Core.Path.{sym, _∙_}
 use borrow.Author.Needs.{needs}
-use Rattle.refusals.specs.declared.Checked.the-variants.{Accepted}
-use Rattle.refusals.specs.Check.{checkInput}
 use Rattle.refusals.proofs.Accepted.{accepted-input}
 use Rattle.redraw.proofs.update_wire_shapes.Statement.{statement}
 use Rattle.redraw.proofs.update_wire_shapes.Tie as tie
-use Rattle.redraw.proofs.update_wire_shapes.Reads as reads
-use Rattle.redraw.proofs.update_wire_shapes.Lts as lts
-use Rattle.redraw.proofs.redraw.Reads as redraw-reads
-use Rattle.refusals.proofs.answer.Reads as answer-reads
-use Rattle.refusals.proofs.check_input.Reads as check-input-reads
 
 check-input-requires : tie.Need-check-input-requires
 check-input-requires c κs = search needs
