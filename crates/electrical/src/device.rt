@@ -1,0 +1,1 @@
+// Valid device columns.
