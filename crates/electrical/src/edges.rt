@@ -78,3 +78,115 @@ fn is_charged(table: &[u8], j: usize, i: usize) -> bool
     }
     false
 }
+
+// Strong power: from a switch to its support, from a device to its output, from a redstone block to its neighbours.
+pub fn strongly(profile: &[u8], table: &[u8], j: usize, i: usize) -> bool
+    ensures { λ r. ⌜ r ≡ strongly (now (profile .entry)) (now (table .entry)) j i ⌝ }
+{
+    if is_held_by(table, j, i) | (outputs_to(table, j, i) | is_charged(table, j, i)) {
+        return redstone_traits(profile, table, i).strong;
+    }
+    false
+}
+
+// Weak power, from a strongly powered block to its neighbours.
+pub fn through(profile: &[u8], table: &[u8], j: usize, i: usize) -> bool
+    ensures { λ r. ⌜ r ≡ through (now (profile .entry)) (now (table .entry)) j i ⌝ }
+{
+    if redstone_traits(profile, table, i).weak {
+        return is_adjacent(pos_of(table, j), pos_of(table, i));
+    }
+    false
+}
+
+// Whether row i is beside dust j along the facing, and j has that arm.
+fn arm_to(profile: &[u8], table: &[u8], j: usize, i: usize, facing: u8) -> bool
+    ensures { λ r. ⌜ r ≡ armTo (now (profile .entry)) (now (table .entry)) j i facing ⌝ }
+{
+    let side = pos_of(table, j).beside(Facing { code: facing });
+    if side.same(pos_of(table, i)) {
+        return has_arm(profile, table, j, facing);
+    }
+    false
+}
+
+// Whether row i is along one of the arms of dust j.
+fn along_arm(profile: &[u8], table: &[u8], j: usize, i: usize) -> bool
+    ensures { λ r. ⌜ r ≡ alongArm (now (profile .entry)) (now (table .entry)) j i ⌝ }
+{
+    arm_to(profile, table, j, i, Facing::NORTH)
+        | (arm_to(profile, table, j, i, Facing::EAST)
+            | (arm_to(profile, table, j, i, Facing::SOUTH)
+                | arm_to(profile, table, j, i, Facing::WEST)))
+}
+
+// Whether row i is below dust j or along one of its arms.
+fn reaches(profile: &[u8], table: &[u8], j: usize, i: usize) -> bool
+    ensures { λ r. ⌜ r ≡ (samePos (below (posOf (now (table .entry)) j)) (posOf (now (table .entry)) i) || alongArm (now (profile .entry)) (now (table .entry)) j i) ⌝ }
+{
+    let dust = pos_of(table, j);
+    let other = pos_of(table, i);
+    if is_adjacent(dust, other) {
+        return dust.below().same(other) | along_arm(profile, table, j, i);
+    }
+    false
+}
+
+// Weak power, from dust to the block below it and along its arms.
+pub fn under(profile: &[u8], table: &[u8], j: usize, i: usize) -> bool
+    ensures { λ r. ⌜ r ≡ under (now (profile .entry)) (now (table .entry)) j i ⌝ }
+{
+    if kind_of(table, j) != kind::REDSTONE_WIRE {
+        return false;
+    }
+    if redstone_traits(profile, table, i).weak {
+        return reaches(profile, table, j, i);
+    }
+    false
+}
+
+// Whether row j is above dust i, below it or along one of its arms.
+fn touches(profile: &[u8], table: &[u8], j: usize, i: usize) -> bool
+    ensures { λ r. ⌜ r ≡ touches (now (profile .entry)) (now (table .entry)) j i ⌝ }
+{
+    let dust = pos_of(table, i);
+    let other = pos_of(table, j);
+    if is_adjacent(dust, other) {
+        return dust.above().same(other)
+            | (dust.below().same(other) | along_arm(profile, table, i, j));
+    }
+    false
+}
+
+// Whether row j gives dust i its emitted level, once the two touch.
+fn feeds(table: &[u8], j: usize, i: usize) -> bool
+    ensures { λ r. ⌜ ((p : Bytes) → r ≡ feeds p (now (table .entry)) j i) ⌝ }
+{
+    is_source(kind_of(table, j)) | outputs_to(table, j, i)
+}
+
+// The direct level of dust i from row j is what j emits.
+pub fn lights(profile: &[u8], table: &[u8], j: usize, i: usize) -> bool
+    ensures { λ r. ⌜ r ≡ lights (now (profile .entry)) (now (table .entry)) j i ⌝ }
+{
+    if kind_of(table, i) != kind::REDSTONE_WIRE {
+        return false;
+    }
+    if feeds(table, j, i) {
+        return touches(profile, table, j, i);
+    }
+    false
+}
+
+// The direct level of dust i from row j is j's strong power.
+pub fn drives(profile: &[u8], table: &[u8], j: usize, i: usize) -> bool
+    ensures { λ r. ⌜ r ≡ drives (now (profile .entry)) (now (table .entry)) j i ⌝ }
+{
+    if kind_of(table, i) != kind::REDSTONE_WIRE {
+        return false;
+    }
+    if !feeds(table, j, i) & redstone_traits(profile, table, j).drives {
+        return touches(profile, table, j, i);
+    }
+    false
+}
