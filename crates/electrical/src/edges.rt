@@ -45,8 +45,14 @@ fn is_adjacent(p: Pos, q: Pos) -> bool
         | (p.beside(Facing { code: Facing::WEST }).same(q)
             | (p.above().same(q)
                 | (p.below().same(q)
-                    | (p.beside(Facing { code: Facing::SOUTH }).same(q)
-                        | p.beside(Facing { code: Facing::NORTH }).same(q)))))
+                    | (p.beside(Facing {
+                            code: Facing::SOUTH,
+                        })
+                        .same(q)
+                        | p.beside(Facing {
+                                code: Facing::NORTH,
+                            })
+                            .same(q)))))
 }
 
 // Whether row j is a repeater or comparator whose output is row i, under any profile.

@@ -12,7 +12,7 @@ enum-told : tie.Need-enum-told
 enum-told c = search needs
 
 returns : tie.Need-returns
-returns c = 
+returns c =
     let told = c .enum-told .given .1 in
     rw (sym (c .before .before .check-input .ensures) ∙ told) told
 

@@ -12,7 +12,7 @@ use Rattle.electrical.proofs.device.first_bad_device.Statement.{stateme
 use Rattle.electrical.proofs.device.first_bad_device.Tie as tie
 
 abbrev Inv-loop : tie.InvT-loop
-Inv-loop table devices rows i₀ i = 
+Inv-loop table devices rows i₀ i =
     (i ≤ rows) × (firstFrom (isBadDevice table devices) rows 0 ≡ firstFrom (isBadDevice table devices) (rows - i) i)
 
 abbrev μ-loop : tie.MeasureT-loop
@@ -37,13 +37,13 @@ loop-less : tie.Need-loop-less Inv-loop μ-loop
 loop-less c = omega arith
 
 loop-again : tie.Need-loop-again Inv-loop μ-loop
-loop-again c = 
+loop-again c =
     let l = c .before .before .before .before .before in
     let e : isBadDevice (l .before .before .before .args .table .now) (l .before .before .before .args .devices .now) (l .loop .i) ≡ false = cc in
     (omega arith, l .loop .inv .1 ∙ scan-miss _ _ _ (omega arith) e)
 
 returns : tie.Need-returns Inv-loop μ-loop
-returns c = 
+returns c =
     let l = c .before .before .before .before .before in
     let e : isBadDevice (l .before .before .before .args .table .now) (l .before .before .before .args .devices .now) (l .loop .i) ≡ true = cc in
     sym (l .loop .inv .1 ∙ scan-hit _ _ _ (omega arith) e)

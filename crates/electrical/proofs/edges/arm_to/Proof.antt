@@ -22,13 +22,13 @@ has-arm-requires c κs = search needs
 
 returns : tie.Need-returns
 unfolding armTo
-returns c = 
+returns c =
     let at = c .before .before in
     rw (← at .before .before .before .pos-of .ensures, ← at .before .before .beside .ensures, ← at .before .pos-of2 .ensures, sym (at .same .ensures) ∙ c .before .if1 .taken) (c .has-arm .ensures)
 
 returns-2 : tie.Need-returns-2
 unfolding armTo
-returns-2 c = 
+returns-2 c =
     let at = c .before in
     rw (← at .before .before .before .pos-of .ensures, ← at .before .before .beside .ensures, ← at .before .pos-of2 .ensures, sym (at .same .ensures) ∙ c .if1 .left)
 

@@ -22,7 +22,7 @@ is-at-requires c κs = search needs
 
 returns : tie.Need-returns
 unfolding isHeldBy
-returns c = 
+returns c =
     λ p. rw (← c .before .before .before .before .before .kind-of .ensures, sym (c .before .before .before .before .is-switch .ensures) ∙ c .before .before .before .if1 .taken) (cc)
 
 returns-2 : tie.Need-returns-2

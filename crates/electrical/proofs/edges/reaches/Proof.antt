@@ -27,11 +27,11 @@ along-arm-requires : tie.Need-along-arm-requires
 along-arm-requires c κs = search needs
 
 returns : tie.Need-returns
-returns c = 
+returns c =
     rw (← c .before .before .before .before .before .before .pos-of .ensures, ← c .before .before .before .before .before .pos-of2 .ensures, ← c .before .before .below .ensures, ← c .before .same .ensures, ← c .along-arm .ensures)
 
 returns-2 : tie.Need-returns-2
-returns-2 c = 
+returns-2 c =
     let a = c .before .before .before .before .before .before .args in
     let h : adjacent (posOf (a .table .now) (a .j)) (posOf (a .table .now) (a .i)) ≡ false = rw (← c .before .before .before .pos-of .ensures, ← c .before .before .pos-of2 .ensures, ← c .before .is-adjacent .ensures) (c .if1 .left) in
     rw (not-below (a .profile .now) (a .table .now) (a .j) (a .i) h, not-along (a .profile .now) (a .table .now) (a .j) (a .i) h)

@@ -18,7 +18,7 @@ is-adjacent-requires c κs = search needs
 
 returns : tie.Need-returns
 unfolding through
-returns c = 
+returns c =
     rw (← c .before .before .before .before .redstone-traits .ensures, c .before .before .before .if1 .taken, ← c .before .before .pos-of .ensures, ← c .before .pos-of2 .ensures) (c .is-adjacent .ensures)
 
 returns-2 : tie.Need-returns-2

@@ -35,12 +35,12 @@ along-arm-requires c κs = search needs
 
 returns : tie.Need-returns
 unfolding touches
-returns c = 
+returns c =
     rw (← c .before .before .before .before .before .before .before .before .pos-of .ensures, ← c .before .before .before .before .before .before .before .pos-of2 .ensures, ← c .before .before .before .before .above .ensures, ← c .before .before .before .same .ensures, ← c .before .before .below .ensures, ← c .before .same2 .ensures, ← c .along-arm .ensures)
 
 returns-2 : tie.Need-returns-2
 unfolding touches
-returns-2 c = 
+returns-2 c =
     let a = c .before .before .before .before .before .before .args in
     let h : adjacent (posOf (a .table .now) (a .i)) (posOf (a .table .now) (a .j)) ≡ false = rw (← c .before .before .before .pos-of .ensures, ← c .before .before .pos-of2 .ensures, ← c .before .is-adjacent .ensures) (c .if1 .left) in
     rw (not-above (a .profile .now) (a .table .now) (a .i) (a .j) h, not-below (a .profile .now) (a .table .now) (a .i) (a .j) h, not-along (a .profile .now) (a .table .now) (a .i) (a .j) h)

@@ -21,12 +21,12 @@ reaches-requires c κs = search needs
 
 returns-2 : tie.Need-returns-2
 unfolding under
-returns-2 c = 
+returns-2 c =
     rw (eq-eqb _ 3 (sym (c .before .before .before .before .kind-of .ensures) ∙ c .before .before .before .if1 .left), ← c .before .before .redstone-traits .ensures, c .before .if2 .taken) (c .reaches .ensures)
 
 returns-3 : tie.Need-returns-3
 unfolding under
-returns-3 c = 
+returns-3 c =
     rw (eq-eqb _ 3 (sym (c .before .before .before .kind-of .ensures) ∙ c .before .before .if1 .left), ← c .before .redstone-traits .ensures, c .if2 .left)
 
 pub under-spec : {M : Type 1} → statement M

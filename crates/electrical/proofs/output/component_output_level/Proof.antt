@@ -39,7 +39,7 @@ returns-2 c = rw (sym (c .before .kind-of .ensures) ∙ c .match .keys2)
 
 returns-3 : tie.Need-returns-3
 unfolding emittedLevel
-returns-3 c = 
+returns-3 c =
     let kind = c .before .before .before .before .kind-of in
     by-cases (decLt (kind .result) 5)
     (λ l. let e : kind .result ≡ 4 = omega arith in rw (sym (kind .ensures) ∙ e) (c .lit-level .ensures))
@@ -47,7 +47,7 @@ returns-3 c =
 
 returns-4 : tie.Need-returns-4
 unfolding emittedLevel
-returns-4 c = 
+returns-4 c =
     let kind = c .before .before .before .before .before .kind-of in
     let on = c .switch-level .ensures in
     by-cases (decLt (kind .result) 8)
