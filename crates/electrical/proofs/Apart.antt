@@ -10,35 +10,35 @@ use Rattle.places.specs.Places.{East, West, South, North, beside, above, below,
 use Rattle.world.specs.Rows.{posOf}
 use Rattle.electrical.specs.Edges.{armTo, alongArm}
 
--- q is none of the six neighbours of p
-record Apart (p q : Pos) : Type 0 where
-  east : samePos (beside p East) q ≡ false
-  west : samePos (beside p West) q ≡ false
-  up : samePos (above p) q ≡ false
-  down : samePos (below p) q ≡ false
-  south : samePos (beside p South) q ≡ false
-  north : samePos (beside p North) q ≡ false
+-- b is none of the six neighbours of a
+record Apart (a b : Pos) : Type 0 where
+  east : samePos (beside a East) b ≡ false
+  west : samePos (beside a West) b ≡ false
+  up : samePos (above a) b ≡ false
+  down : samePos (below a) b ≡ false
+  south : samePos (beside a South) b ≡ false
+  north : samePos (beside a North) b ≡ false
 
-apart : (p q : Pos) → adjacent p q ≡ false → Apart p q
-unfolding adjacent
-apart p q h =
-    let (e, h1) = or-false (samePos (beside p East) q) _ h in
-    let (w, h2) = or-false (samePos (beside p West) q) _ h1 in
-    let (u, h3) = or-false (samePos (above p) q) _ h2 in
-    let (d, h4) = or-false (samePos (below p) q) _ h3 in
-    let (s, h5) = or-false (samePos (beside p South) q) _ h4 in
-    let (n, _) = or-false (samePos (beside p North) q) _ h5 in
-    record { east = e; west = w; up = u; down = d; south = s; north = n }
+module _ (a b : Pos) (h : adjacent a b ≡ false) where
+  apart : Apart a b
+  unfolding adjacent
+  apart =
+      let (e, past-e) = or-false (samePos (beside a East) b) _ h in
+      let (w, past-w) = or-false (samePos (beside a West) b) _ past-e in
+      let (u, past-u) = or-false (samePos (above a) b) _ past-w in
+      let (d, past-d) = or-false (samePos (below a) b) _ past-u in
+      let (s, past-s) = or-false (samePos (beside a South) b) _ past-d in
+      let (n, _) = or-false (samePos (beside a North) b) _ past-s in
+      record { east = e; west = w; up = u; down = d; south = s; north = n }
 
-module _ (p t : Bytes) (j i : ℕ) (h : adjacent (posOf t j) (posOf t i) ≡ false) where
-  pub not-above : samePos (above (posOf t j)) (posOf t i) ≡ false
-  not-above = apart (posOf t j) (posOf t i) h .up
+  pub not-above : samePos (above a) b ≡ false
+  not-above = apart .up
 
-  pub not-below : samePos (below (posOf t j)) (posOf t i) ≡ false
-  not-below = apart (posOf t j) (posOf t i) h .down
+  pub not-below : samePos (below a) b ≡ false
+  not-below = apart .down
 
-  pub not-along : alongArm p t j i ≡ false
-  unfolding alongArm armTo
-  not-along =
-      let a = apart (posOf t j) (posOf t i) h in
-      rw (a .north, a .east, a .south, a .west)
+pub not-along : (p t : Bytes) (j i : ℕ) → adjacent (posOf t j) (posOf t i) ≡ false → alongArm p t j i ≡ false
+unfolding alongArm armTo
+not-along p t j i h =
+    let a = apart (posOf t j) (posOf t i) h in
+    rw (a .north, a .east, a .south, a .west)

@@ -37,7 +37,7 @@ fn first_bad_device(table: &[u8], devices: &[u8], rows: usize) -> Found
     Found::Nothing
 }
 
-// Refusal 6, of a table that is not crowded: the row at fault fits its number.
+// Refusal 6, over a table that is not crowded, so that the number of the row at fault fits.
 fn check_column(table: &[u8], devices: &[u8]) -> Checked
     requires { ⌜ rowsOf (now table) ≤ 1024 ⌝ }
     ensures { λ r. ⌜ r ≡ checkDevices (now (table .entry)) (now (devices .entry)) ⌝ }

@@ -1,5 +1,5 @@
-// What reaches what: the six kinds of edge from row j to row i. Settling asks them of very many pairs of rows, so each test first
-// rules out by a kind or a trait, then by the two positions, and asks for arms, which take look-ups, only of neighbours.
+// What reaches what: the edges from row j to row i. Settling asks them of very many pairs of rows, so that each test rules out by a
+// kind or a row's traits first, then by the two positions, and asks for arms, which take look-ups, only of neighbours.
 use blocks::kind;
 use connectivity::output_of;
 use places::Facing;
@@ -16,7 +16,7 @@ ghost use mathlib.Core.Path.{_≡_};
 ghost use mathlib.Core.Bool.{_||_};
 ghost use Rattle.columns.specs.Column.{Bytes};
 ghost use Rattle.blocks.specs.Kind.{isSwitch};
-ghost use Rattle.places.specs.Places.{below, samePos, adjacent, isAt};
+ghost use Rattle.places.specs.Places.{beside, below, samePos, adjacent, isAt};
 ghost use Rattle.world.specs.Rows.{posOf};
 ghost use Rattle.electrical.specs.Edges.{outputsTo, isHeldBy, isCharged, strongly, through, armTo, alongArm, under, touches, feeds, lights, drives};
 
@@ -37,22 +37,23 @@ fn is_at(place: Place, q: Pos) -> bool
     }
 }
 
-// Whether q is one of p's six neighbours. A coordinate at an end has itself for a neighbour there, so differences would not do.
+// Whether q is beside p along the facing.
+fn is_beside(p: Pos, facing: u8, q: Pos) -> bool
+    ensures { λ r. ⌜ r ≡ samePos (beside p facing) q ⌝ }
+{
+    p.beside(Facing { code: facing }).same(q)
+}
+
+// Whether q is one of p's six neighbours. A position at the end of a coordinate is its own neighbour there, so that a test by
+// differences would not do.
 fn is_adjacent(p: Pos, q: Pos) -> bool
     ensures { λ r. ⌜ r ≡ adjacent p q ⌝ }
 {
-    p.beside(Facing { code: Facing::EAST }).same(q)
-        | (p.beside(Facing { code: Facing::WEST }).same(q)
+    is_beside(p, Facing::EAST, q)
+        | (is_beside(p, Facing::WEST, q)
             | (p.above().same(q)
                 | (p.below().same(q)
-                    | (p.beside(Facing {
-                            code: Facing::SOUTH,
-                        })
-                        .same(q)
-                        | p.beside(Facing {
-                                code: Facing::NORTH,
-                            })
-                            .same(q)))))
+                    | (is_beside(p, Facing::SOUTH, q) | is_beside(p, Facing::NORTH, q)))))
 }
 
 // Whether row j is a repeater or comparator whose output is row i, under any profile.
@@ -109,8 +110,7 @@ pub fn through(profile: &[u8], table: &[u8], j: usize, i: usize) -> bool
 fn arm_to(profile: &[u8], table: &[u8], j: usize, i: usize, facing: u8) -> bool
     ensures { λ r. ⌜ r ≡ armTo (now (profile .entry)) (now (table .entry)) j i facing ⌝ }
 {
-    let side = pos_of(table, j).beside(Facing { code: facing });
-    if side.same(pos_of(table, i)) {
+    if is_beside(pos_of(table, j), facing, pos_of(table, i)) {
         return has_arm(profile, table, j, facing);
     }
     false

@@ -1,5 +1,5 @@
 -- `electrical::edges::reaches` meets its contract: what is no neighbour is neither below nor along an arm. Assumes nothing.
-use mathlib.Core.Path.{_≡_, sym, _∙_}
+use mathlib.Core.Path.{_≡_}
 use mathlib.Core.Bool.{false}
 use Rattle.places.specs.Places.{adjacent}
 use Rattle.world.specs.Rows.{posOf}
@@ -34,7 +34,7 @@ returns-2 : tie.Need-returns-2
 returns-2 c =
     let a = c .before .before .before .before .before .before .args in
     let h : adjacent (posOf (a .table .now) (a .j)) (posOf (a .table .now) (a .i)) ≡ false = rw (← c .before .before .before .pos-of .ensures, ← c .before .before .pos-of2 .ensures, ← c .before .is-adjacent .ensures) (c .if1 .left) in
-    rw (not-below (a .profile .now) (a .table .now) (a .j) (a .i) h, not-along (a .profile .now) (a .table .now) (a .j) (a .i) h)
+    rw (not-below _ _ h, not-along (a .profile .now) _ _ _ h)
 
 pub reaches-spec : {M : Type 1} → statement M
 reaches-spec =

@@ -1,5 +1,5 @@
 -- `electrical::edges::touches` meets its contract: what is no neighbour is neither above, below nor along an arm. Assumes nothing.
-use mathlib.Core.Path.{_≡_, sym, _∙_}
+use mathlib.Core.Path.{_≡_}
 use mathlib.Core.Bool.{false}
 use Rattle.places.specs.Places.{adjacent}
 use Rattle.world.specs.Rows.{posOf}
@@ -43,7 +43,7 @@ unfolding touches
 returns-2 c =
     let a = c .before .before .before .before .before .before .args in
     let h : adjacent (posOf (a .table .now) (a .i)) (posOf (a .table .now) (a .j)) ≡ false = rw (← c .before .before .before .pos-of .ensures, ← c .before .before .pos-of2 .ensures, ← c .before .is-adjacent .ensures) (c .if1 .left) in
-    rw (not-above (a .profile .now) (a .table .now) (a .i) (a .j) h, not-below (a .profile .now) (a .table .now) (a .i) (a .j) h, not-along (a .profile .now) (a .table .now) (a .i) (a .j) h)
+    rw (not-above _ _ h, not-below _ _ h, not-along (a .profile .now) _ _ _ h)
 
 pub touches-spec : {M : Type 1} → statement M
 touches-spec =

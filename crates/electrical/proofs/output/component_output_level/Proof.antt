@@ -8,17 +8,27 @@ use native.Mathlib.Omega.{arith}
 use lib.Dec.{eqb}
 use borrow.Author.Tests.{ne-eqb}
 use Rattle.columns.specs.Column.{Bytes}
+use Rattle.blocks.specs.Kind.{RedstoneTorch, Repeater, Comparator, Lever, Button, PressurePlate, RedstoneBlock}
 use Rattle.world.specs.Rows.{kindOf}
 use Rattle.electrical.specs.Emitted.{emittedLevel}
 use borrow.Author.Needs.{needs}
 use Rattle.electrical.proofs.output.component_output_level.Statement.{statement}
 use Rattle.electrical.proofs.output.component_output_level.Tie as tie
 
-dark : (t : Bytes) (i b : ℕ) → ¬ (kindOf t i ≡ 11) → ((n : ℕ) → 4 ≤ n → n < 10 → ¬ (kindOf t i ≡ n)) → 0 ≡ emittedLevel t i b
+-- a row of a kind outside 4 to 9, and no redstone block, emits nothing
+dark : (t : Bytes) (i b : ℕ) → ¬ (kindOf t i ≡ RedstoneBlock) → ((n : ℕ) → 4 ≤ n → n < 10 → ¬ (kindOf t i ≡ n)) → 0 ≡ emittedLevel t i b
 unfolding emittedLevel
 dark t i b block other =
-    let is : (n : ℕ) → 4 ≤ n → n < 10 → eqb (kindOf t i) n ≡ false = λ n g h. ne-eqb _ n (other n g h) in
-    rw (ne-eqb _ 11 block, is 7 (omega arith) (omega arith), is 8 (omega arith) (omega arith), is 9 (omega arith) (omega arith), is 4 (omega arith) (omega arith), is 5 (omega arith) (omega arith), is 6 (omega arith) (omega arith))
+    let no : (n : ℕ) → 4 ≤ n → n < 10 → eqb (kindOf t i) n ≡ false = λ n g h. ne-eqb _ n (other n g h) in
+    rw (
+      ne-eqb _ RedstoneBlock block,
+      no Lever (omega arith) (omega arith),
+      no Button (omega arith) (omega arith),
+      no PressurePlate (omega arith) (omega arith),
+      no RedstoneTorch (omega arith) (omega arith),
+      no Repeater (omega arith) (omega arith),
+      no Comparator (omega arith) (omega arith),
+    )
 
 kind-of-requires : tie.Need-kind-of-requires
 kind-of-requires c κs = search needs
@@ -42,8 +52,8 @@ unfolding emittedLevel
 returns-3 c =
     let kind = c .before .before .before .before .kind-of in
     by-cases (decLt (kind .result) 5)
-    (λ l. let e : kind .result ≡ 4 = omega arith in rw (sym (kind .ensures) ∙ e) (c .lit-level .ensures))
-    (λ n. let e : kind .result ≡ 5 = omega arith in rw (sym (kind .ensures) ∙ e) (c .lit-level .ensures))
+    (λ l. let e : kind .result ≡ RedstoneTorch = omega arith in rw (sym (kind .ensures) ∙ e) (c .lit-level .ensures))
+    (λ n. let e : kind .result ≡ Repeater = omega arith in rw (sym (kind .ensures) ∙ e) (c .lit-level .ensures))
 
 returns-4 : tie.Need-returns-4
 unfolding emittedLevel
@@ -51,10 +61,10 @@ returns-4 c =
     let kind = c .before .before .before .before .before .kind-of in
     let on = c .switch-level .ensures in
     by-cases (decLt (kind .result) 8)
-    (λ l. let e : kind .result ≡ 7 = omega arith in rw (sym (kind .ensures) ∙ e) on)
+    (λ l. let e : kind .result ≡ Lever = omega arith in rw (sym (kind .ensures) ∙ e) on)
     (λ m. by-cases (decLt (kind .result) 9)
-    (λ l. let e : kind .result ≡ 8 = omega arith in rw (sym (kind .ensures) ∙ e) on)
-    (λ n. let e : kind .result ≡ 9 = omega arith in rw (sym (kind .ensures) ∙ e) on))
+    (λ l. let e : kind .result ≡ Button = omega arith in rw (sym (kind .ensures) ∙ e) on)
+    (λ n. let e : kind .result ≡ PressurePlate = omega arith in rw (sym (kind .ensures) ∙ e) on))
 
 returns-5 : tie.Need-returns-5
 returns-5 c =
