@@ -1,4 +1,4 @@
-//! Writes the original's answers to standard output as crates/vectors/FORMAT.md lays them out: record_vectors [SEED].
+//! Writes the original's answers to standard output as crates/vectors/FORMAT.md lays them out: record [SEED].
 
 #[cfg(no_original)]
 fn main() {
