@@ -59,18 +59,40 @@ module _ (q : Pos) (r : InRange q) where
   around-among =
       all-member (Among 12 (aroundAt q)) (around q) (
         lower 3 North (omega arith) north refl,
-        (beside-it 5 North (omega arith) refl,
-        (upper 7 North (omega arith) north refl,
-        (lower 9 East (omega arith) east refl,
-        (beside-it 10 East (omega arith) refl,
-        (upper 11 East (omega arith) east refl,
-        (lower 4 South (omega arith) south refl,
-        (beside-it 6 South (omega arith) refl,
-        (upper 8 South (omega arith) south refl,
-        (lower 0 West (omega arith) west refl,
-        (beside-it 1 West (omega arith) refl,
-        (upper 2 West (omega arith) west refl,
-        tt)))))))))))
+        (
+          beside-it 5 North (omega arith) refl,
+          (
+            upper 7 North (omega arith) north refl,
+            (
+              lower 9 East (omega arith) east refl,
+              (
+                beside-it 10 East (omega arith) refl,
+                (
+                  upper 11 East (omega arith) east refl,
+                  (
+                    lower 4 South (omega arith) south refl,
+                    (
+                      beside-it 6 South (omega arith) refl,
+                      (
+                        upper 8 South (omega arith) south refl,
+                        (
+                          lower 0 West (omega arith) west refl,
+                          (
+                            beside-it 1 West (omega arith) refl,
+                            (
+                              upper 2 West (omega arith) west refl,
+                              tt,
+                            ),
+                          ),
+                        ),
+                      ),
+                    ),
+                  ),
+                ),
+              ),
+            ),
+          ),
+        ),
       )
 
 -- ---- the five positions over q
@@ -80,10 +102,16 @@ unfolding overAt
 over-side q =
     all-member (λ f. Among 5 (overAt q) (beside q f)) horizontals (
       record { place = 0; inside = omega arith; is = refl },
-      (record { place = 1; inside = omega arith; is = refl },
-      (record { place = 2; inside = omega arith; is = refl },
-      (record { place = 3; inside = omega arith; is = refl },
-      tt)))
+      (
+        record { place = 1; inside = omega arith; is = refl },
+        (
+          record { place = 2; inside = omega arith; is = refl },
+          (
+            record { place = 3; inside = omega arith; is = refl },
+            tt,
+          ),
+        ),
+      ),
     )
 
 over-above : (q : Pos) → Among 5 (overAt q) (above q)

@@ -2,8 +2,8 @@
 -- Assumes nothing.
 use mathlib.Core.Path.{_≡_, refl, ap, sym, _∙_}
 use mathlib.Core.Bool.{Bool, true, false, cond, _&&_, false≢true}
-use Prim.Native.Nat.{ℕ, zero, suc, _+_, _*_, _-_, _/_, _%_, _≤_, _<_, max, zero-le}
-use native.Mathlib.Nat.{le-trans, le-of-eq, le-antisymm, le-refl}
+use Prim.Native.Nat.{ℕ, _+_, _*_, _-_, _/_, _%_, _≤_, _<_, zero-le}
+use native.Mathlib.Nat.{le-trans, le-of-eq, le-antisymm}
 use native.Mathlib.Omega.{arith}
 use lib.ListN.{length, List·getD-eq-default}
 use lib.Dec.{ltb}
@@ -26,19 +26,8 @@ use Rattle.wire.specs.Transfer.{transmits}
 use Rattle.wire.proofs.Around.{transmits-dust}
 use Rattle.electrical.specs.Edges.{under}
 use Rattle.gather.specs.Slots.{aroundAt, overAt, noRow, slotOf, feederAt, underAt, feeders, unders}
+use Rattle.gather.proofs.Levels.{top-same, top-less}
 use Rattle.gather.proofs.Near.{Among, transmits-near, under-near}
-
--- ---- the largest of several levels
-
-pub top-same : (n : ℕ) (f g : ℕ → ℕ) → ((k : ℕ) → k < n → f k ≡ g k) → top n f ≡ top n g
-unfolding top
-top-same zero f g h = refl
-top-same (suc n) f g h = rw (top-same n f g (λ k l. h k (omega arith)), h n (le-refl _))
-
-pub top-less : (n : ℕ) (f : ℕ → ℕ) → top n (λ k. f k - 1) ≡ top n f - 1
-unfolding top
-top-less zero f = refl
-top-less (suc n) f = rw (top-less n f) (omega arith)
 
 -- ---- slots at the positions from which the edges to row i can come
 

@@ -1,0 +1,10 @@
+// Settling: `solve_instantaneous`.
+pub mod round;
+
+ghost use mathlib.Core.Path.{_≡_};
+
+// How settling ends: by the round that answers, or at the limit.
+pub enum Outcome {
+    Settled { rounds: u32 },
+    Unsettled,
+}

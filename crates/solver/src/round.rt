@@ -1,0 +1,89 @@
+// One round, from the last signals alone, over the columns that no round changes.
+use blocks::kind;
+use columns::byte_at;
+use world::row::kind_of;
+use world::signal::Signal;
+ghost use mathlib.Core.Path.{_≡_};
+ghost use mathlib.Core.Bool.{Bool};
+ghost use Prim.Native.Nat.{ℕ, _+_, _-_, _*_, _<_, _≤_, max};
+ghost use lib.ListN.{length};
+ghost use Rattle.columns.specs.Column.{row, tabulate};
+ghost use Rattle.network.specs.Laws.Loop.{repeats};
+ghost use Rattle.world.specs.Rows.{rows};
+ghost use Rattle.solver.specs.Rounds.{slotted, nextSignal, nextWeak, firstSignal};
+
+fn larger(x: u8, y: u8) -> u8
+    ensures { λ r. ⌜ r ≡ max x y ⌝ }
+{
+    if x < y { y } else { x }
+}
+
+// The level that is left one cell on.
+fn less_one(x: u8) -> u8
+    ensures { λ r. ⌜ r ≡ x - 1 ⌝ }
+{
+    if 0 < x { x - 1 } else { 0 }
+}
+
+fn wide(x: u16) -> usize
+    ensures { λ r. ⌜ r ≡ x ⌝ }
+{
+    x as usize
+}
+
+// The largest level in so many slots: an empty one lies past the column's end, where there is none.
+fn largest(slots: &[u16], start: usize, width: usize, signal: &[u8]) -> u8
+    requires { ⌜ start + width ≤ length (now slots) ⌝ }
+    ensures { λ r. ⌜ r ≡ slotted width (now (slots .entry)) start (now (signal .entry)) ⌝ }
+{
+    let mut best = 0;
+    let mut k = 0;
+    while k < width {
+        let level = byte_at(signal, wide(slots[start + k]));
+        best = larger(best, level);
+        k += 1;
+    }
+    best
+}
+
+// The signal of a row in the next round.
+fn next_signal(
+    table: &[u8],
+    emitted: &[u8],
+    direct: &[u8],
+    feeders: &[u16],
+    signal: &[u8],
+    row: usize,
+) -> u8
+    requires { ⌜ (row < length (now emitted)) × (row < length (now direct)) × (row * 12 + 12 ≤ length (now feeders)) ⌝ }
+    ensures { λ r. ⌜ r ≡ nextSignal (now (table .entry)) (now (emitted .entry)) (now (direct .entry)) (now (feeders .entry)) (now (signal .entry)) row ⌝ }
+{
+    if kind_of(table, row) != kind::REDSTONE_WIRE {
+        return emitted[row];
+    }
+    let fed = less_one(largest(feeders, row * 12, 12, signal));
+    Signal {
+        level: larger(fed, direct[row]),
+    }
+        .capped()
+        .level
+}
+
+// The weak power of a row in the next round.
+fn next_weak(base: &[u8], unders: &[u16], signal: &[u8], row: usize) -> u8
+    requires { ⌜ (row < length (now base)) × (row * 5 + 5 ≤ length (now unders)) ⌝ }
+    ensures { λ r. ⌜ r ≡ nextWeak (now (base .entry)) (now (unders .entry)) (now (signal .entry)) row ⌝ }
+{
+    larger(base[row], largest(unders, row * 5, 5, signal))
+}
+
+// The signal of a row before the first round: dust starts at 0.
+fn first_signal(table: &[u8], emitted: &[u8], row: usize) -> u8
+    requires { ⌜ row < length (now emitted) ⌝ }
+    ensures { λ r. ⌜ r ≡ firstSignal (now (table .entry)) (now (emitted .entry)) row ⌝ }
+{
+    if kind_of(table, row) == kind::REDSTONE_WIRE {
+        return 0;
+    }
+    emitted[row]
+}
