@@ -1,6 +1,7 @@
 // One round, from the last signals alone, over the columns that no round changes.
 use blocks::kind;
 use columns::byte_at;
+use columns::same;
 use world::row::kind_of;
 use world::signal::Signal;
 ghost use mathlib.Core.Path.{_≡_};
@@ -86,4 +87,64 @@ fn first_signal(table: &[u8], emitted: &[u8], row: usize) -> u8
         return 0;
     }
     emitted[row]
+}
+
+// The signals of the next round.
+pub fn next_signals(
+    table: &[u8],
+    emitted: &[u8],
+    direct: &[u8],
+    feeders: &[u16],
+    signal: &[u8],
+    out: &mut [u8],
+)
+    requires { ⌜ (length (now emitted) ≡ length (now out)) × (length (now direct) ≡ length (now out)) × (length (now feeders) ≡ length (now out) * 12) ⌝ }
+    ensures { λ _. ⌜ now (out .exit) ≡ tabulate (length (now (out .entry))) (nextSignal (now (table .entry)) (now (emitted .entry)) (now (direct .entry)) (now (feeders .entry)) (now (signal .entry))) ⌝ }
+{
+    for i in 0..out.len() {
+        out[i] = next_signal(table, emitted, direct, feeders, signal, i);
+    }
+}
+
+// The weak power of the next round.
+pub fn next_weaks(base: &[u8], unders: &[u16], signal: &[u8], out: &mut [u8])
+    requires { ⌜ (length (now base) ≡ length (now out)) × (length (now unders) ≡ length (now out) * 5) ⌝ }
+    ensures { λ _. ⌜ now (out .exit) ≡ tabulate (length (now (out .entry))) (nextWeak (now (base .entry)) (now (unders .entry)) (now (signal .entry))) ⌝ }
+{
+    for i in 0..out.len() {
+        out[i] = next_weak(base, unders, signal, i);
+    }
+}
+
+// The signals before the first round.
+pub fn first_signals(table: &[u8], emitted: &[u8], out: &mut [u8])
+    requires { ⌜ length (now emitted) ≡ length (now out) ⌝ }
+    ensures { λ _. ⌜ now (out .exit) ≡ tabulate (length (now (out .entry))) (firstSignal (now (table .entry)) (now (emitted .entry))) ⌝ }
+{
+    for i in 0..out.len() {
+        out[i] = first_signal(table, emitted, i);
+    }
+}
+
+// Whether a round answers: signals and power map both equal the last, of which the map is the same in all rounds but the first.
+pub fn answers(
+    empty: bool,
+    rounds: u32,
+    signal: &[u8],
+    weak: &[u8],
+    next_signal: &[u8],
+    next_weak: &[u8],
+) -> bool
+    ensures { λ r. ⌜ r ≡ repeats empty rounds (now (signal .entry)) (now (weak .entry)) (now («next_signal» .entry)) (now («next_weak» .entry)) ⌝ }
+{
+    same(signal, next_signal) & same(weak, next_weak) & ((0 < rounds) | empty)
+}
+
+pub fn copy(from: &[u8], to: &mut [u8])
+    requires { ⌜ length (now from) ≡ length (now to) ⌝ }
+    ensures { λ _. ⌜ now (to .exit) ≡ now (from .entry) ⌝ }
+{
+    for i in 0..from.len() {
+        to[i] = from[i];
+    }
 }

@@ -1,6 +1,5 @@
 -- `solver::round::first_signal` meets its contract. Assumes nothing.
 use borrow.Author.Needs.{needs}
-
 use borrow.Author.Tests.{eq-eqb, ne-eqb}
 use Rattle.solver.specs.Rounds.{firstSignal}
 use Rattle.solver.proofs.round.first_signal.Statement.{statement}

@@ -1,6 +1,5 @@
 -- `solver::round::next_signal` meets its contract. Assumes nothing.
 use borrow.Author.Needs.{needs}
-
 use mathlib.Core.Path.{_∙_}
 use borrow.Author.Tests.{eq-eqb, ne-eqb}
 use Rattle.solver.specs.Rounds.{nextSignal}

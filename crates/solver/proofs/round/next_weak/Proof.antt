@@ -1,6 +1,5 @@
 -- `solver::round::next_weak` meets its contract. Assumes nothing.
 use borrow.Author.Needs.{needs}
-
 use mathlib.Core.Path.{_∙_}
 use Rattle.solver.specs.Rounds.{nextWeak}
 use Rattle.solver.proofs.round.next_weak.Statement.{statement}

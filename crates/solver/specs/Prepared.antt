@@ -1,0 +1,27 @@
+-- The columns that no round changes, as the rounds find them.
+-- Assumes nothing.
+use mathlib.Core.Path.{_≡_}
+use mathlib.Core.Bool.{Bool}
+use Prim.Native.Nat.{ℕ, _*_, max}
+use lib.ListN.{length}
+use Rattle.columns.specs.Column.{Bytes, Column, row, tabulate}
+use Rattle.network.specs.Levels.{arriving}
+use Rattle.network.specs.Network.{strongOf}
+use Rattle.network.specs.Laws.Loop.{unmapped}
+use Rattle.world.specs.Rows.{rows}
+use Rattle.refusals.proofs.Accepted.{Table}
+use Rattle.electrical.specs.Edges.{through, lights, drives, networkOf}
+use Rattle.gather.specs.Slots as Slots
+
+-- Of the accepted table t, under the profile p: the emitted levels, the strong power, the weak power from it, the direct levels, the slots of the
+-- dust that feeds, and whether the power map is empty.
+pub record Prepared (p t : Bytes) (emitted strong base direct feeders unders : Column) (empty : Bool) : Type 0 where
+  pub accepted : Table t
+  pub emitted-rows : length emitted ≡ rows t
+  pub strong-is : strong ≡ strongOf (networkOf p t) emitted
+  pub base-is : base ≡ tabulate (rows t) (arriving (rows t) (through p t) (row strong))
+  pub direct-is :
+      direct ≡ tabulate (rows t) (λ i. max (arriving (rows t) (lights p t) (row emitted) i) (arriving (rows t) (drives p t) (row strong) i))
+  pub feeders-is : feeders ≡ Slots.feeders p t (rows t * 12)
+  pub unders-is : unders ≡ Slots.unders p t (rows t * 5)
+  pub empty-is : empty ≡ unmapped (networkOf p t)
