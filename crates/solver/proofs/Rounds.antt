@@ -1,36 +1,79 @@
--- Laws: over the prepared columns the rule of a round gives the network's next signals and weak power.
+-- Laws: over the prepared columns the rule of a round gives the network's next signals and weak power, and the loop of rounds its settled ones.
 -- Assumes nothing.
 use mathlib.Core.Path.{_≡_, refl, ap, sym, _∙_}
-use mathlib.Core.Bool.{Bool, cond}
-use Prim.Native.Nat.{ℕ, _*_, _-_, _<_, min, max}
+use mathlib.Core.Bool.{Bool, true, false, cond}
+use Prim.Native.Nat.{ℕ, _+_, _*_, _-_, _≤_, _<_, min, max}
+use native.Mathlib.Omega.{arith}
 use lib.ListN.{length}
+use borrow.Author.Tests.{le-leb, lt-leb}
 use Rattle.columns.specs.Column.{Bytes, Column, row, tabulate}
 use Rattle.columns.specs.Signal.{maxSignal}
 use Rattle.columns.proofs.Columns.{length-tabulate, row-tabulate, same-rule}
 use Rattle.network.specs.Levels.{arriving}
-use Rattle.network.specs.Network.{strongOf, weakOf, level, signals, nowhere}
+use Rattle.network.specs.Network.{Network, strongOf, weakOf, level, signals, nowhere}
+use Rattle.network.specs.Settled.{roundsOf}
+use Rattle.network.specs.Laws.Loop.{Going, Gone, repeats, going-start, going-stop, going-on, going-out}
 use Rattle.blocks.specs.Kind.{isDust}
 use Rattle.world.specs.Rows.{rows, kindOf}
 use Rattle.electrical.specs.Edges.{through, under, lights, drives, networkOf}
+use Rattle.electrical.proofs.Demand.{on-map}
 use Rattle.gather.proofs.Slots.{arriving-feeders, arriving-unders}
 use Rattle.solver.specs.Rounds.{slotted, nextSignal, nextWeak, firstSignal}
 use Rattle.solver.specs.Prepared.{Prepared}
+use Rattle.solver.specs.Outcome.{outcomeOf, Ran}
+use Rattle.solver.specs.declared.Outcome.the-variants.{Settled, Unsettled}
 
-pub signals-first : (p t : Bytes) (e : Column) → tabulate (rows t) (firstSignal t e) ≡ signals (networkOf p t) e (λ i. 0)
+signals-first : (p t : Bytes) (e : Column) → tabulate (rows t) (firstSignal t e) ≡ signals (networkOf p t) e (λ i. 0)
 unfolding firstSignal signals networkOf
 signals-first p t e = refl
 
-module _ {p t : Bytes} {e g base direct feeders unders : Column} {empty : Bool} (c : Prepared p t e g base direct feeders unders empty) (s : Column)
-    (sized : length s ≡ rows t) where
-  pub signals-next : tabulate (rows t) (nextSignal t e direct feeders s) ≡ signals (networkOf p t) e (level (networkOf p t) e g s)
-  unfolding nextSignal slotted signals level networkOf
-  signals-next =
-      same-rule (rows t) _ _
-      (λ i l. ap (λ x. cond (isDust (kindOf t i)) x (row e i))
-      (rw (c .feeders-is, c .direct-is, arriving-feeders p t (c .accepted) s sized i l, row-tabulate (rows t) (λ i. max (arriving (rows t) (lights p t) (row e) i) (arriving (rows t) (drives p t) (row g) i)) i l)))
+module _ {p t : Bytes} {e base direct feeders unders : Column} {empty : Bool} (c : Prepared p t e base direct feeders unders empty) where
+  -- the strong power
+  abbrev g : Column
+  g = strongOf (networkOf p t) e
 
-  pub weaks-next : tabulate (rows t) (nextWeak base unders s) ≡ weakOf (networkOf p t) g s
-  unfolding nextWeak slotted weakOf networkOf
-  weaks-next =
-      same-rule (rows t) _ _
-      (λ i l. rw (c .unders-is, c .base-is, arriving-unders p t (c .accepted) s sized i l, row-tabulate (rows t) (arriving (rows t) (through p t) (row g)) i l))
+  module _ (s : Column) (sized : length s ≡ rows t) where
+    signals-next : tabulate (rows t) (nextSignal t e direct feeders s) ≡ signals (networkOf p t) e (level (networkOf p t) e g s)
+    unfolding nextSignal slotted signals level networkOf
+    signals-next =
+        same-rule (rows t) _ _
+        (λ i l. ap (λ x. cond (isDust (kindOf t i)) x (row e i))
+        (rw (c .feeders-is, c .direct-is, arriving-feeders p t (c .accepted) s sized i l, row-tabulate (rows t) (λ i. max (arriving (rows t) (lights p t) (row e) i) (arriving (rows t) (drives p t) (row g) i)) i l)))
+
+    weaks-next : tabulate (rows t) (nextWeak base unders s) ≡ weakOf (networkOf p t) g s
+    unfolding nextWeak slotted weakOf networkOf
+    weaks-next =
+        same-rule (rows t) _ _
+        (λ i l. rw (c .unders-is, c .base-is, arriving-unders p t (c .accepted) s sized i l, row-tabulate (rows t) (arriving (rows t) (through p t) (row g)) i l))
+
+  -- ---- the loop
+
+  pub starts : {s w : Column} → s ≡ tabulate (rows t) (firstSignal t e) → w ≡ nowhere (networkOf p t) → Going (networkOf p t) e empty g 0 s w
+  starts p q = going-start (c .empty-is) refl (p ∙ signals-first _ _ _) q
+
+  -- round k + 1
+  module _ {k n m : ℕ} {s w s′ w′ : Column} (h : Going (networkOf p t) e empty g k s w) (sized : length s ≡ rows t)
+      (made : s′ ≡ tabulate n (nextSignal t e direct feeders s)) (whole : n ≡ rows t) (powered : w′ ≡ tabulate m (nextWeak base unders s)) (full : m ≡ rows t) where
+    turned : s′ ≡ signals (networkOf p t) e (level (networkOf p t) e g s)
+    turned = made ∙ rw whole (signals-next s sized)
+
+    weakened : w′ ≡ weakOf (networkOf p t) g s
+    weakened = powered ∙ rw full (weaks-next s sized)
+
+    pub stops : repeats empty k s w s′ w′ ≡ true → Gone (networkOf p t) e g (k + 1) s′ w′
+    stops = going-stop (on-map p t) h turned weakened
+
+    pub goes-on : repeats empty k s w s′ w′ ≡ false → Going (networkOf p t) e empty g (k + 1) s′ w′
+    goes-on = going-on (on-map p t) h turned weakened
+
+-- ---- the end of the loop
+
+module _ {N : Network} {e : Column} {limit : ℕ} where
+  pub ran-settled : {g : Column} {k : ℕ} {s w : Column} → Gone N e g k s w → k ≤ limit → Ran N e limit s w (Settled k)
+  unfolding outcomeOf
+  ran-settled {k = k} h l = record { answer = rw (h .rounds, le-leb k limit l); levels = λ _. (h .signal, h .weak) }
+
+  pub ran-unsettled : {empty : Bool} {g : Column} {k : ℕ} {s₀ w₀ s w : Column} → Going N e empty g k s₀ w₀ → limit ≤ k → Ran N e limit s w Unsettled
+  unfolding outcomeOf
+  ran-unsettled h l =
+      record { answer = rw (lt-leb (roundsOf N e) limit (omega (arith, going-out h))); levels = λ r. absurd (omega (arith, going-out h)) }

@@ -13,15 +13,16 @@ use Rattle.refusals.proofs.Accepted.{Table}
 use Rattle.electrical.specs.Edges.{through, lights, drives, networkOf}
 use Rattle.gather.specs.Slots as Slots
 
--- Of the accepted table t, under the profile p: the emitted levels, the strong power, the weak power from it, the direct levels, the slots of the
--- dust that feeds, and whether the power map is empty.
-pub record Prepared (p t : Bytes) (emitted strong base direct feeders unders : Column) (empty : Bool) : Type 0 where
+-- Of the accepted table t with the emitted levels, under the profile p: the weak power from strong power, the direct levels, the slots of the dust that
+-- feeds, and whether the power map is empty.
+pub record Prepared (p t : Bytes) (emitted base direct feeders unders : Column) (empty : Bool) : Type 0 where
   pub accepted : Table t
   pub emitted-rows : length emitted ≡ rows t
-  pub strong-is : strong ≡ strongOf (networkOf p t) emitted
-  pub base-is : base ≡ tabulate (rows t) (arriving (rows t) (through p t) (row strong))
+  pub base-is : base ≡ tabulate (rows t) (arriving (rows t) (through p t) (row (strongOf (networkOf p t) emitted)))
   pub direct-is :
-      direct ≡ tabulate (rows t) (λ i. max (arriving (rows t) (lights p t) (row emitted) i) (arriving (rows t) (drives p t) (row strong) i))
+      direct
+      ≡ tabulate (rows t)
+      (λ i. max (arriving (rows t) (lights p t) (row emitted) i) (arriving (rows t) (drives p t) (row (strongOf (networkOf p t) emitted)) i))
   pub feeders-is : feeders ≡ Slots.feeders p t (rows t * 12)
   pub unders-is : unders ≡ Slots.unders p t (rows t * 5)
   pub empty-is : empty ≡ unmapped (networkOf p t)
