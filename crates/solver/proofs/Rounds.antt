@@ -23,6 +23,10 @@ use Rattle.solver.specs.Prepared.{Prepared}
 use Rattle.solver.specs.Outcome.{outcomeOf, Ran}
 use Rattle.solver.specs.declared.Outcome.the-variants.{Settled, Unsettled}
 
+-- a column that a rule gives has as many rows
+pub made-rows : {n m : ℕ} (f : ℕ → ℕ) {s : Column} → s ≡ tabulate n f → n ≡ m → length s ≡ m
+made-rows {n} f h e = ap length h ∙ length-tabulate n 0 f ∙ e
+
 signals-first : (p t : Bytes) (e : Column) → tabulate (rows t) (firstSignal t e) ≡ signals (networkOf p t) e (λ i. 0)
 unfolding firstSignal signals networkOf
 signals-first p t e = refl
@@ -46,6 +50,20 @@ module _ {p t : Bytes} {e base direct feeders unders : Column} {empty : Bool} (c
         same-rule (rows t) _ _
         (λ i l. rw (c .unders-is, c .base-is, arriving-unders p t (c .accepted) s sized i l, row-tabulate (rows t) (arriving (rows t) (through p t) (row g)) i l))
 
+  -- ---- as many entries as the table has rows
+
+  pub base-rows : length base ≡ rows t
+  base-rows = made-rows _ (c .base-is) refl
+
+  pub direct-rows : length direct ≡ rows t
+  direct-rows = made-rows _ (c .direct-is) refl
+
+  pub feeders-rows : length feeders ≡ rows t * 12
+  feeders-rows = made-rows _ (c .feeders-is) refl
+
+  pub unders-rows : length unders ≡ rows t * 5
+  unders-rows = made-rows _ (c .unders-is) refl
+
   -- ---- the loop
 
   pub starts : {s w : Column} → s ≡ tabulate (rows t) (firstSignal t e) → w ≡ nowhere (networkOf p t) → Going (networkOf p t) e empty g 0 s w
@@ -65,6 +83,17 @@ module _ {p t : Bytes} {e base direct feeders unders : Column} {empty : Bool} (c
 
     pub goes-on : repeats empty k s w s′ w′ ≡ false → Going (networkOf p t) e empty g (k + 1) s′ w′
     goes-on = going-on (on-map p t) h turned weakened
+
+-- ---- the loop's invariant
+
+-- after some rounds, with the rest of the limit left
+pub record Turning (p t : Bytes) (e : Column) (empty : Bool) (limit : ℕ) (s0 w0 s1 w1 : Column) (rounds left : ℕ) : Type 0 where
+  pub count : rounds + left ≡ limit
+  pub going : Going (networkOf p t) e empty (strongOf (networkOf p t) e) rounds s0 w0
+  pub s0-rows : length s0 ≡ rows t
+  pub w0-rows : length w0 ≡ rows t
+  pub s1-rows : length s1 ≡ rows t
+  pub w1-rows : length w1 ≡ rows t
 
 -- ---- the end of the loop
 

@@ -1,5 +1,6 @@
 // Settling: `solve_instantaneous`.
-pub mod round;
+mod round;
+mod settle;
 
 ghost use mathlib.Core.Path.{_≡_};
 

@@ -1,0 +1,55 @@
+// The loop of rounds over the prepared columns.
+use crate::Outcome;
+use crate::round::answers;
+use crate::round::copy;
+use crate::round::first_signals;
+use crate::round::next_signals;
+use crate::round::next_weaks;
+ghost use mathlib.Core.Path.{_≡_};
+ghost use lib.ListN.{length};
+ghost use Rattle.columns.specs.Column.{tabulate};
+ghost use Rattle.network.specs.Network.{nowhere};
+ghost use Rattle.world.specs.Rows.{rows};
+ghost use Rattle.electrical.specs.Edges.{networkOf};
+ghost use Rattle.solver.specs.Rounds.{firstSignal};
+ghost use Rattle.solver.specs.Prepared.{Prepared};
+ghost use Rattle.solver.specs.Outcome.{Ran};
+
+// Rounds until one answers, while the limit lasts: each from the last one's signals, which stand in s0, and its weak power in w0.
+// The answering round's stand in s1 and w1.
+fn run(
+    profile: &[u8],
+    table: &[u8],
+    emitted: &[u8],
+    base: &[u8],
+    direct: &[u8],
+    feeders: &[u16],
+    unders: &[u16],
+    empty: bool,
+    limit: u32,
+    s0: &mut [u8],
+    w0: &mut [u8],
+    s1: &mut [u8],
+    w1: &mut [u8],
+) -> Outcome
+    requires { ⌜ Prepared (now profile) (now table) (now emitted) (now base) (now direct) (now feeders) (now unders) empty ⌝ }
+    requires { ⌜ (now s0 ≡ tabulate (rows (now table)) (firstSignal (now table) (now emitted))) × (now w0 ≡ nowhere (networkOf (now profile) (now table))) ⌝ }
+    requires { ⌜ (length (now s1) ≡ rows (now table)) × (length (now w1) ≡ rows (now table)) ⌝ }
+    ensures { λ r. ⌜ Ran (networkOf (now (profile .entry)) (now (table .entry))) (now (emitted .entry)) limit (now (s1 .exit)) (now (w1 .exit)) r ⌝ }
+{
+    let mut rounds: u32 = 0;
+    let mut left = limit;
+    while 0 < left {
+        left -= 1;
+        next_signals(table, emitted, direct, feeders, s0, s1);
+        next_weaks(base, unders, s0, w1);
+        let answered = answers(empty, rounds, s0, w0, s1, w1);
+        rounds += 1;
+        if answered {
+            return Outcome::Settled { rounds };
+        }
+        copy(s1, s0);
+        copy(w1, w0);
+    }
+    Outcome::Unsettled
+}
