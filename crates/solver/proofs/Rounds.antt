@@ -5,22 +5,27 @@ use mathlib.Core.Bool.{Bool, true, false, cond}
 use Prim.Native.Nat.{ℕ, _+_, _*_, _-_, _≤_, _<_, min, max}
 use native.Mathlib.Omega.{arith}
 use lib.ListN.{length}
-use borrow.Author.Tests.{le-leb, lt-leb}
+use lib.Dec.{leb}
+use borrow.Author.Tests.{leb-true, le-leb, lt-leb}
 use Rattle.columns.specs.Column.{Bytes, Column, row, tabulate}
 use Rattle.columns.specs.Signal.{maxSignal}
 use Rattle.columns.proofs.Columns.{length-tabulate, row-tabulate, same-rule}
 use Rattle.network.specs.Levels.{arriving}
 use Rattle.network.specs.Network.{Network, strongOf, weakOf, level, signals, nowhere}
-use Rattle.network.specs.Settled.{roundsOf}
+use Rattle.network.specs.Settled.{roundsOf, settled}
 use Rattle.network.specs.Laws.Loop.{Going, Gone, repeats, going-start, going-stop, going-on, going-out}
 use Rattle.blocks.specs.Kind.{isDust}
 use Rattle.world.specs.Rows.{rows, kindOf}
+use Rattle.refusals.specs.declared.Checked.the-variants.{Accepted}
+use Rattle.refusals.specs.Check.{refuseUnless}
 use Rattle.electrical.specs.Edges.{through, under, lights, drives, networkOf}
+use Rattle.electrical.specs.Answer.{Columns}
 use Rattle.electrical.proofs.Demand.{on-map}
 use Rattle.gather.proofs.Slots.{arriving-feeders, arriving-unders}
 use Rattle.solver.specs.Rounds.{slotted, nextSignal, nextWeak, firstSignal}
 use Rattle.solver.specs.Prepared.{Prepared}
-use Rattle.solver.specs.Outcome.{outcomeOf, Ran}
+use Rattle.solver.specs.Outcome.{outcomeOf, writtenBy, Ran, Solves}
+use Rattle.solver.specs.declared.Outcome.{Outcome}
 use Rattle.solver.specs.declared.Outcome.the-variants.{Settled, Unsettled}
 
 -- a column that a rule gives has as many rows
@@ -78,11 +83,12 @@ module _ {p t : Bytes} {e base direct feeders unders : Column} {empty : Bool} (c
     weakened : w′ ≡ weakOf (networkOf p t) g s
     weakened = powered ∙ rw full (weaks-next s sized)
 
-    pub stops : repeats empty k s w s′ w′ ≡ true → Gone (networkOf p t) e g (k + 1) s′ w′
-    stops = going-stop (on-map p t) h turned weakened
+    module _ {b : Bool} (answered : b ≡ repeats empty k s w s′ w′) where
+      pub stops : b ≡ true → Gone (networkOf p t) e g (k + 1) s′ w′
+      stops b-is = going-stop (on-map p t) h turned weakened (sym answered ∙ b-is)
 
-    pub goes-on : repeats empty k s w s′ w′ ≡ false → Going (networkOf p t) e empty g (k + 1) s′ w′
-    goes-on = going-on (on-map p t) h turned weakened
+      pub goes-on : b ≡ false → Going (networkOf p t) e empty g (k + 1) s′ w′
+      goes-on b-is = going-on (on-map p t) h turned weakened (sym answered ∙ b-is)
 
 -- ---- the loop's invariant
 
@@ -98,11 +104,25 @@ pub record Turning (p t : Bytes) (e : Column) (empty : Bool) (limit : ℕ) (s0 w
 -- ---- the end of the loop
 
 module _ {N : Network} {e : Column} {limit : ℕ} where
-  pub ran-settled : {g : Column} {k : ℕ} {s w : Column} → Gone N e g k s w → k ≤ limit → Ran N e limit s w (Settled k)
+  pub ran-settled : {k : ℕ} {s w : Column} → Gone N e (strongOf N e) k s w → k ≤ limit → Ran N e limit s w (Settled k)
   unfolding outcomeOf
-  ran-settled {k = k} h l = record { answer = rw (h .rounds, le-leb k limit l); levels = λ _. (h .signal, h .weak) }
+  ran-settled {k} h l = record { answer = rw (h .rounds, le-leb k limit l); levels = λ _. rw (h .rounds) h }
 
   pub ran-unsettled : {empty : Bool} {g : Column} {k : ℕ} {s₀ w₀ s w : Column} → Going N e empty g k s₀ w₀ → limit ≤ k → Ran N e limit s w Unsettled
   unfolding outcomeOf
   ran-unsettled h l =
       record { answer = rw (lt-leb (roundsOf N e) limit (omega (arith, going-out h))); levels = λ r. absurd (omega (arith, going-out h)) }
+
+  -- the columns written by how the loop ended
+  module _ {s w g signal weak strong signal′ weak′ strong′ : Column} {r : Outcome} (h : Ran N e limit s w r) (g-is : g ≡ strongOf N e)
+      (a : signal′ ≡ writtenBy r signal s) (b : weak′ ≡ writtenBy r weak w) (c : strong′ ≡ writtenBy r strong g) where
+    pub solves : Solves (roundsOf N e) (settled N e) limit signal weak strong signal′ weak′ strong′ r
+    unfolding outcomeOf
+    solves = record { answer = h .answer; columns = go (leb (roundsOf N e) limit) refl (h .answer) }
+      where
+        go : (d : Bool) → leb (roundsOf N e) limit ≡ d → r ≡ cond d (Settled (roundsOf N e)) Unsettled
+            → Columns (refuseUnless 8 d Accepted) (settled N e) signal weak strong signal′ weak′ strong′
+        go true l q =
+            let n = h .levels (leb-true _ _ l) in
+            record { signals = a ∙ rw q (n .signal); weaks = b ∙ rw q (n .weak); strongs = c ∙ rw q (g-is ∙ n .strong) }
+        go false l q = record { signals = a ∙ rw q; weaks = b ∙ rw q; strongs = c ∙ rw q }
