@@ -1,55 +1,55 @@
+-- `solver::settle::settle_in` meets its contract. Assumes nothing.
 use borrow.Author.Needs.{needs}
+
+use mathlib.Core.Path.{_≡_, refl, ap, sym, _∙_}
+use Prim.Native.Nat.{ℕ}
+use lib.ListN.{length}
+use Rattle.columns.specs.Column.{tabulate}
+use Rattle.network.specs.Network.{strongOf}
+use Rattle.electrical.specs.Edges.{networkOf}
+use Rattle.solver.specs.Rounds.{firstSignal}
+use Rattle.solver.proofs.Rounds.{made-rows, solves}
 use Rattle.solver.proofs.settle.settle_in.Statement.{statement}
 use Rattle.solver.proofs.settle.settle_in.Tie as tie
-use Rattle.solver.proofs.settle.settle_in.Reads as reads
-use Rattle.solver.proofs.settle.settle_in.Lts as lts
-use Rattle.solver.proofs.round.first_signals.Reads as first-signals-reads
-use Rattle.solver.proofs.settle.run.Reads as run-reads
-use Rattle.solver.proofs.settle.write.Reads as write-reads
 
--- src/settle.rt:106:5
 first-signals-requires : tie.Need-first-signals-requires
 first-signals-requires c κs = search needs
 
--- src/settle.rt:107:9
 run-requires : tie.Need-run-requires
-run-requires c κs = ?
+run-requires c κs =     let q = c .before .before .before .before .before .before .before .before .before .before .before .before .before .before .before .before .before .before .before .before .before .before .before .pre in
+    (q .0, ((c .before .before .before .before .before .before .first-signals .ensures ∙ ap (λ n. tabulate n (firstSignal (c .before .before .before .before .before .before .before .before .before .before .before .before .before .before .before .before .before .before .before .before .before .before .before .args .table .now) (c .before .before .before .before .before .before .before .before .before .before .before .before .before .before .before .before .before .before .before .before .before .before .before .args .emitted .now))) (q .1 .1 .0 .0), q .1 .0 .1), (q .1 .1 .0 .1, q .1 .1 .0 .2)))
 
--- src/settle.rt:122:5
 write-requires : tie.Need-write-requires
-write-requires c κs = ?
+unfolding strongOf networkOf
+write-requires c κs =     let q = c .before .before .before .before .before .before .before .before .before .before .before .before .before .before .before .before .before .before .before .before .before .before .before .before .before .before .before .before .before .before .before .before .before .before .before .before .before .pre in
+    let k = c .before .before .before .before .before .before .before .before .before .before .before .before .before .run .kept in
+    (k .1 .1 .1 .1 .1 .1 .1 .1 .1 .1 .1 .0 ∙ q .1 .1 .0 .1 ∙ sym (q .1 .1 .1 .0), k .1 .1 .1 .1 .1 .1 .1 .1 .1 .1 .1 .1 .0 ∙ q .1 .1 .0 .2 ∙ sym (q .1 .1 .1 .1), made-rows _ (q .1 .0 .0) refl ∙ sym (q .1 .1 .1 .2))
 
--- src/settle.rt:81:1
 same-length : tie.Need-same-length
 same-length c = search needs
 
--- src/settle.rt:81:1
 same-length-2 : tie.Need-same-length-2
 same-length-2 c = search needs
 
--- src/settle.rt:81:1
 same-length-3 : tie.Need-same-length-3
 same-length-3 c = search needs
 
--- src/settle.rt:81:1
 same-length-4 : tie.Need-same-length-4
 same-length-4 c = search needs
 
--- src/settle.rt:81:1
 same-length-5 : tie.Need-same-length-5
 same-length-5 c = search needs
 
--- src/settle.rt:81:1
 same-length-6 : tie.Need-same-length-6
 same-length-6 c = search needs
 
--- src/settle.rt:81:1
 same-length-7 : tie.Need-same-length-7
 same-length-7 c = search needs
 
--- src/settle.rt:81:1
 returns : tie.Need-returns
-returns c = ?
+returns c =     let q = c .before .before .before .before .before .before .before .before .before .before .before .before .before .before .before .before .before .before .before .before .before .before .before .before .before .before .before .before .before .before .before .before .before .before .before .before .before .before .before .before .before .before .before .before .pre in
+    let w = c .before .before .before .before .before .before .write .ensures in
+    solves (c .before .before .before .before .before .before .before .before .before .before .before .before .before .before .before .before .before .before .before .before .run .ensures) (q .1 .0 .0) (w .0) (w .1 .0) (w .1 .1)
 
 pub settle-in-spec : {M : Type 1} → statement M
 settle-in-spec =
