@@ -1,3 +1,4 @@
 pub mod Levels
+pub mod Arriving
 pub mod Near
-pub mod Slots
+pub mod Slotted

@@ -42,9 +42,13 @@ overAt q k = cond (ltb k 4) (beside q (k + 1)) (above q)
 abbrev pub noRow : ℕ
 noRow = 65535
 
+-- row j where it has the edge, and a number below that
+abbrev pub entryOf : Bool → ℕ → ℕ
+entryOf edge j = cond (ltb j noRow && edge) j noRow
+
 -- the row found, where it has the edge
 unfoldable pub slotOf : (ℕ → Bool) → Found → ℕ
-slotOf edge f = onFound (λ j. cond (ltb j noRow && edge j) j noRow) noRow f
+slotOf edge f = onFound (λ j. entryOf (edge j) j) noRow f
 
 module _ (p t : Bytes) (i k : ℕ) where
   -- the dust at the k-th position around the dust i that transmits to it

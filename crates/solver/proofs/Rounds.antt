@@ -21,7 +21,7 @@ use Rattle.refusals.specs.Check.{refuseUnless}
 use Rattle.electrical.specs.Edges.{through, under, lights, drives, networkOf}
 use Rattle.electrical.specs.Answer.{Columns}
 use Rattle.electrical.proofs.Demand.{on-map}
-use Rattle.gather.proofs.Slots.{arriving-feeders, arriving-unders}
+use Rattle.gather.proofs.Slotted.{arriving-feeders, arriving-unders}
 use Rattle.solver.specs.Rounds.{slotted, nextSignal, nextWeak, firstSignal}
 use Rattle.solver.specs.Prepared.{Prepared}
 use Rattle.solver.specs.Outcome.{outcomeOf, writtenBy, Ran, Solves}

@@ -2,22 +2,17 @@
 use blocks::kind;
 use columns::byte_at;
 use columns::same;
+use gather::larger;
 use world::row::kind_of;
 use world::signal::Signal;
 ghost use mathlib.Core.Path.{_≡_};
 ghost use mathlib.Core.Bool.{Bool};
-ghost use Prim.Native.Nat.{ℕ, _+_, _-_, _*_, _<_, _≤_, max};
+ghost use Prim.Native.Nat.{ℕ, _+_, _-_, _*_, _<_, _≤_};
 ghost use lib.ListN.{length};
 ghost use Rattle.columns.specs.Column.{row, tabulate};
 ghost use Rattle.network.specs.Laws.Loop.{repeats};
 ghost use Rattle.world.specs.Rows.{rows};
 ghost use Rattle.solver.specs.Rounds.{slotted, nextSignal, nextWeak, firstSignal};
-
-fn larger(x: u8, y: u8) -> u8
-    ensures { λ r. ⌜ r ≡ max x y ⌝ }
-{
-    if x < y { y } else { x }
-}
 
 // The level that is left one cell on.
 fn less_one(x: u8) -> u8

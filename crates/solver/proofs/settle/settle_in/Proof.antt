@@ -1,6 +1,5 @@
 -- `solver::settle::settle_in` meets its contract. Assumes nothing.
 use borrow.Author.Needs.{needs}
-
 use mathlib.Core.Path.{_≡_, refl, ap, sym, _∙_}
 use Prim.Native.Nat.{ℕ}
 use lib.ListN.{length}
@@ -16,12 +15,12 @@ first-signals-requires : tie.Need-first-signals-requires
 first-signals-requires c κs = search needs
 
 run-requires : tie.Need-run-requires
-run-requires c κs =     let q = c .before .before .before .before .before .before .before .before .before .before .before .before .before .before .before .before .before .before .before .before .before .before .before .pre in
+run-requires c κs = let q = c .before .before .before .before .before .before .before .before .before .before .before .before .before .before .before .before .before .before .before .before .before .before .before .pre in
     (q .0, ((c .before .before .before .before .before .before .first-signals .ensures ∙ ap (λ n. tabulate n (firstSignal (c .before .before .before .before .before .before .before .before .before .before .before .before .before .before .before .before .before .before .before .before .before .before .before .args .table .now) (c .before .before .before .before .before .before .before .before .before .before .before .before .before .before .before .before .before .before .before .before .before .before .before .args .emitted .now))) (q .1 .1 .0 .0), q .1 .0 .1), (q .1 .1 .0 .1, q .1 .1 .0 .2)))
 
 write-requires : tie.Need-write-requires
 unfolding strongOf networkOf
-write-requires c κs =     let q = c .before .before .before .before .before .before .before .before .before .before .before .before .before .before .before .before .before .before .before .before .before .before .before .before .before .before .before .before .before .before .before .before .before .before .before .before .before .pre in
+write-requires c κs = let q = c .before .before .before .before .before .before .before .before .before .before .before .before .before .before .before .before .before .before .before .before .before .before .before .before .before .before .before .before .before .before .before .before .before .before .before .before .before .pre in
     let k = c .before .before .before .before .before .before .before .before .before .before .before .before .before .run .kept in
     (k .1 .1 .1 .1 .1 .1 .1 .1 .1 .1 .1 .0 ∙ q .1 .1 .0 .1 ∙ sym (q .1 .1 .1 .0), k .1 .1 .1 .1 .1 .1 .1 .1 .1 .1 .1 .1 .0 ∙ q .1 .1 .0 .2 ∙ sym (q .1 .1 .1 .1), made-rows _ (q .1 .0 .0) refl ∙ sym (q .1 .1 .1 .2))
 
@@ -47,7 +46,7 @@ same-length-7 : tie.Need-same-length-7
 same-length-7 c = search needs
 
 returns : tie.Need-returns
-returns c =     let q = c .before .before .before .before .before .before .before .before .before .before .before .before .before .before .before .before .before .before .before .before .before .before .before .before .before .before .before .before .before .before .before .before .before .before .before .before .before .before .before .before .before .before .before .before .pre in
+returns c = let q = c .before .before .before .before .before .before .before .before .before .before .before .before .before .before .before .before .before .before .before .before .before .before .before .before .before .before .before .before .before .before .before .before .before .before .before .before .before .before .before .before .before .before .before .before .pre in
     let w = c .before .before .before .before .before .before .write .ensures in
     solves (c .before .before .before .before .before .before .before .before .before .before .before .before .before .before .before .before .before .before .before .before .run .ensures) (q .1 .0 .0) (w .0) (w .1 .0) (w .1 .1)
 

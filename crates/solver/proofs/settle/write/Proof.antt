@@ -1,6 +1,5 @@
 -- `solver::settle::write` meets its contract, by how settling ended. Assumes nothing.
 use borrow.Author.Needs.{needs}
-
 use mathlib.Core.Path.{_≡_, sym, _∙_}
 use Rattle.solver.proofs.settle.write.Statement.{statement}
 use Rattle.solver.proofs.settle.write.Tie as tie
@@ -30,11 +29,11 @@ same-length-3 : tie.Need-same-length-3
 same-length-3 c = search needs
 
 returns : tie.Need-returns
-returns c =     let told = c .before .before .before .before .before .before .before .before .before .before .before .before .enum-told .given in
+returns c = let told = c .before .before .before .before .before .before .before .before .before .before .before .before .enum-told .given in
     (rw (told .1) (c .before .before .before .before .before .before .before .before .before .before .copy .ensures), (rw (told .1) (c .before .before .before .before .before .before .copy2 .ensures), rw (told .1) (c .before .before .copy3 .ensures)))
 
 returns-2 : tie.Need-returns-2
-returns-2 c =     let told = c .enum-told2 .given in
+returns-2 c = let told = c .enum-told2 .given in
     (rw (told .1), (rw (told .1), rw (told .1)))
 
 pub write-spec : {M : Type 1} → statement M
