@@ -1,55 +1,50 @@
+-- `gather::arrivals::fill_direct` meets its contract. The loop's invariant: the first i entries are the rule's. Assumes nothing.
+use borrow.Author.Needs.{needs}
+
+use Prim.Native.Nat.{_-_, _≤_}
+use native.Mathlib.Omega.{arith}
+use lib.ListN.{length}
+use Rattle.columns.proofs.Columns.{Filled, filled-none, filled-more, filled-all}
+use mathlib.Core.Path.{_∙_}
+use Rattle.gather.specs.Arrivals.{directAt}
 use Rattle.gather.proofs.arrivals.fill_direct.Statement.{statement}
 use Rattle.gather.proofs.arrivals.fill_direct.Tie as tie
-use Rattle.gather.proofs.arrivals.fill_direct.Reads as reads
-use Rattle.gather.proofs.arrivals.fill_direct.Lts as lts
-use Rattle.gather.proofs.arrivals.arriving.Reads as arriving-reads
-use Rattle.gather.proofs.larger.Reads as larger-reads
 
 abbrev Inv-loop : tie.InvT-loop
-Inv-loop profile table emitted charged out₀ i₀ i-end out i = ?
+Inv-loop profile table emitted charged out₀ i₀ i-end out i = (i ≤ length out₀) × Filled (directAt profile table emitted charged) (length out₀) i out
 
 abbrev μ-loop : tie.MeasureT-loop
-μ-loop profile table emitted charged out₀ i₀ i-end out i = ?
+μ-loop profile table emitted charged out₀ i₀ i-end out i = length out₀ - i
 
--- src/arrivals.rt:67:5
 loop-holds : tie.Need-loop-holds Inv-loop μ-loop
-loop-holds c = ?
+loop-holds c = (omega arith, filled-none (search needs))
 
--- src/arrivals.rt:68:13
 arriving-requires : tie.Need-arriving-requires Inv-loop μ-loop
-arriving-requires c κs = ?
+arriving-requires c κs = search needs
 
--- src/arrivals.rt:69:13
 arriving-requires-2 : tie.Need-arriving-requires-2 Inv-loop μ-loop
-arriving-requires-2 c κs = ?
+arriving-requires-2 c κs = search needs
 
--- src/arrivals.rt:70:18
 larger-requires : tie.Need-larger-requires Inv-loop μ-loop
-larger-requires c κs = ?
+larger-requires c κs = search needs
 
--- src/arrivals.rt:70:9
 slice-write-out : tie.Need-slice-write-out Inv-loop μ-loop
-slice-write-out c = ?
+slice-write-out c = search needs
 
--- src/arrivals.rt:67:9
 add-i : tie.Need-add-i Inv-loop μ-loop
-add-i c = ?
+add-i c = search needs
 
--- src/arrivals.rt:67:5
 loop-less : tie.Need-loop-less Inv-loop μ-loop
-loop-less c = ?
+loop-less c = search needs
 
--- src/arrivals.rt:67:5
 loop-again : tie.Need-loop-again Inv-loop μ-loop
-loop-again c = ?
+loop-again c = (omega arith, filled-more (c .before .before .before .before .loop .inv .1) (omega arith) (c .larger .ensures ∙ rw (c .before .before .arriving .ensures, c .before .arriving2 .ensures)))
 
--- src/arrivals.rt:64:1
 same-length : tie.Need-same-length Inv-loop μ-loop
-same-length c = ?
+same-length c = search needs
 
--- src/arrivals.rt:64:1
 returns : tie.Need-returns Inv-loop μ-loop
-returns c = ?
+returns c = filled-all (c .before .loop .inv .1) (omega arith)
 
 pub fill-direct-spec : {M : Type 1} → statement M
 fill-direct-spec =

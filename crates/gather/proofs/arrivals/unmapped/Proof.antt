@@ -1,10 +1,12 @@
 -- `gather::arrivals::unmapped` meets its contract. The loop's invariant: none of the first i rows receives power. Assumes nothing.
 use borrow.Author.Needs.{needs}
+
 use mathlib.Core.Path.{_≡_, sym, _∙_}
 use mathlib.Core.Bool.{true, false}
 use Prim.Native.Nat.{ℕ, _-_, _≤_, _<_}
 use native.Mathlib.Omega.{arith}
-use borrow.Author.Count.{below-none, below-more}
+use native.Mathlib.Nat.{not-suc-le-zero}
+use borrow.Author.Count.{below-more}
 use Rattle.network.specs.Laws.Loop.{unmapped-true, unmapped-false}
 use Rattle.world.specs.Rows.{rows}
 use Rattle.world.specs.Traits.{traits, conducts}
@@ -22,7 +24,7 @@ rows-requires : tie.Need-rows-requires Inv-loop μ-loop
 rows-requires c κs = search needs
 
 loop-holds : tie.Need-loop-holds Inv-loop μ-loop
-loop-holds c = (omega arith, λ k. below-none _ k)
+loop-holds c = (omega arith, λ k h. absurd (not-suc-le-zero h))
 
 redstone-traits-requires : tie.Need-redstone-traits-requires Inv-loop μ-loop
 redstone-traits-requires c κs = search needs
@@ -32,7 +34,7 @@ conducts-requires c κs = search needs
 
 returns : tie.Need-returns Inv-loop μ-loop
 unfolding networkOf
-returns c = let a = c .before .before .before .before .before .before .before .before .args in
+returns c =     let a = c .before .before .before .before .before .before .before .before .args in
     let on : conducts (traits (a .profile .now) (a .table .now) (c .before .before .before .before .loop .i)) ≡ true = cc in
     sym (unmapped-false (networkOf (a .profile .now) (a .table .now)) (c .before .before .before .before .loop .i) (omega arith) on)
 
@@ -43,7 +45,7 @@ loop-less : tie.Need-loop-less Inv-loop μ-loop
 loop-less c = search needs
 
 loop-again : tie.Need-loop-again Inv-loop μ-loop
-loop-again c = let a = c .before .before .before .before .before .before .before .before .args in
+loop-again c =     let a = c .before .before .before .before .before .before .before .before .args in
     let off : conducts (traits (a .profile .now) (a .table .now) (c .before .before .before .before .loop .i)) ≡ false = cc in
     (omega arith, below-more _ _ (c .before .before .before .before .loop .inv .1) off)
 

@@ -1,30 +1,23 @@
+-- `gather::slots::at_height` meets its contract. Assumes nothing.
 use borrow.Author.Needs.{needs}
+use borrow.Author.Tests.{lt-ltb, le-ltb, eq-eqb, ne-eqb}
 use Rattle.gather.proofs.slots.at_height.Statement.{statement}
 use Rattle.gather.proofs.slots.at_height.Tie as tie
-use Rattle.gather.proofs.slots.at_height.Reads as reads
-use Rattle.gather.proofs.slots.at_height.Lts as lts
-use Rattle.places.proofs.Pos.above.Reads as above-reads
-use Rattle.places.proofs.Pos.below.Reads as below-reads
 
--- src/slots.rt:55:14
 below-requires : tie.Need-below-requires
 below-requires c κs = search needs
 
--- src/slots.rt:57:14
 above-requires : tie.Need-above-requires
 above-requires c κs = search needs
 
--- src/slots.rt:51:1
 returns : tie.Need-returns
-returns c = ?
+returns c = rw (c .before .match .keys1) (c .below .ensures)
 
--- src/slots.rt:51:1
 returns-2 : tie.Need-returns-2
-returns-2 c = ?
+returns-2 c = rw (c .match .keys2)
 
--- src/slots.rt:51:1
 returns-3 : tie.Need-returns-3
-returns-3 c = ?
+returns-3 c = let none = c .before .match .rest in simp (ne-eqb _ 0 (none .0 .1), ne-eqb _ 1 (none .1)) (c .above .ensures)
 
 pub at-height-spec : {M : Type 1} → statement M
 at-height-spec = tie.close (tie.spec below-requires above-requires returns returns-2 returns-3)

@@ -1,54 +1,50 @@
+-- `gather::slots::fill_feeders` meets its contract. The loop's invariant: the first m entries are the rule's. Assumes nothing.
+use borrow.Author.Needs.{needs}
+
+use Prim.Native.Nat.{_-_, _≤_}
+use native.Mathlib.Omega.{arith}
+use lib.ListN.{length}
+use Rattle.columns.proofs.Columns.{Filled, filled-none, filled-more, filled-all}
+use Prim.Native.Nat.{_/_, _%_}
+use Rattle.gather.specs.Slots.{feederAt}
 use Rattle.gather.proofs.slots.fill_feeders.Statement.{statement}
 use Rattle.gather.proofs.slots.fill_feeders.Tie as tie
-use Rattle.gather.proofs.slots.fill_feeders.Reads as reads
-use Rattle.gather.proofs.slots.fill_feeders.Lts as lts
-use Rattle.gather.proofs.slots.feeder_at.Reads as feeder-at-reads
 
 abbrev Inv-loop : tie.InvT-loop
-Inv-loop profile table out₀ m₀ m-end out m = ?
+Inv-loop profile table out₀ m₀ m-end out m = (m ≤ length out₀) × Filled (λ k. feederAt profile table (k / 12) (k % 12)) (length out₀) m out
 
 abbrev μ-loop : tie.MeasureT-loop
-μ-loop profile table out₀ m₀ m-end out m = ?
+μ-loop profile table out₀ m₀ m-end out m = length out₀ - m
 
--- src/slots.rt:123:5
 loop-holds : tie.Need-loop-holds Inv-loop μ-loop
-loop-holds c = ?
+loop-holds c = (omega arith, filled-none (search needs))
 
--- src/slots.rt:124:52
 cast-feeder-at : tie.Need-cast-feeder-at Inv-loop μ-loop
-cast-feeder-at c = ?
+cast-feeder-at c = search needs
 
--- src/slots.rt:124:18
 feeder-at-requires : tie.Need-feeder-at-requires Inv-loop μ-loop
-feeder-at-requires c κs = ?
+feeder-at-requires c κs = search needs
 
--- src/slots.rt:124:9
 mul-out : tie.Need-mul-out Inv-loop μ-loop
-mul-out c = ?
+mul-out c = search needs
 
--- src/slots.rt:124:9
 slice-write-out : tie.Need-slice-write-out Inv-loop μ-loop
-slice-write-out c = ?
+slice-write-out c = search needs
 
--- src/slots.rt:123:9
 add-m : tie.Need-add-m Inv-loop μ-loop
-add-m c = ?
+add-m c = search needs
 
--- src/slots.rt:123:5
 loop-less : tie.Need-loop-less Inv-loop μ-loop
-loop-less c = ?
+loop-less c = search needs
 
--- src/slots.rt:123:5
 loop-again : tie.Need-loop-again Inv-loop μ-loop
-loop-again c = ?
+loop-again c = (omega arith, filled-more (c .before .before .loop .inv .1) (omega arith) (c .feeder-at .ensures))
 
--- src/slots.rt:120:1
 same-length : tie.Need-same-length Inv-loop μ-loop
-same-length c = ?
+same-length c = search needs
 
--- src/slots.rt:120:1
 returns : tie.Need-returns Inv-loop μ-loop
-returns c = ?
+returns c = filled-all (c .before .loop .inv .1) (omega arith)
 
 pub fill-feeders-spec : {M : Type 1} → statement M
 fill-feeders-spec =

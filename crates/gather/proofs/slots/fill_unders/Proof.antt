@@ -1,54 +1,50 @@
+-- `gather::slots::fill_unders` meets its contract. The loop's invariant: the first m entries are the rule's. Assumes nothing.
+use borrow.Author.Needs.{needs}
+
+use Prim.Native.Nat.{_-_, _≤_}
+use native.Mathlib.Omega.{arith}
+use lib.ListN.{length}
+use Rattle.columns.proofs.Columns.{Filled, filled-none, filled-more, filled-all}
+use Prim.Native.Nat.{_/_, _%_}
+use Rattle.gather.specs.Slots.{underAt}
 use Rattle.gather.proofs.slots.fill_unders.Statement.{statement}
 use Rattle.gather.proofs.slots.fill_unders.Tie as tie
-use Rattle.gather.proofs.slots.fill_unders.Reads as reads
-use Rattle.gather.proofs.slots.fill_unders.Lts as lts
-use Rattle.gather.proofs.slots.under_at.Reads as under-at-reads
 
 abbrev Inv-loop : tie.InvT-loop
-Inv-loop profile table out₀ m₀ m-end out m = ?
+Inv-loop profile table out₀ m₀ m-end out m = (m ≤ length out₀) × Filled (λ k. underAt profile table (k / 5) (k % 5)) (length out₀) m out
 
 abbrev μ-loop : tie.MeasureT-loop
-μ-loop profile table out₀ m₀ m-end out m = ?
+μ-loop profile table out₀ m₀ m-end out m = length out₀ - m
 
--- src/slots.rt:132:5
 loop-holds : tie.Need-loop-holds Inv-loop μ-loop
-loop-holds c = ?
+loop-holds c = (omega arith, filled-none (search needs))
 
--- src/slots.rt:133:50
 cast-under-at : tie.Need-cast-under-at Inv-loop μ-loop
-cast-under-at c = ?
+cast-under-at c = search needs
 
--- src/slots.rt:133:18
 under-at-requires : tie.Need-under-at-requires Inv-loop μ-loop
-under-at-requires c κs = ?
+under-at-requires c κs = search needs
 
--- src/slots.rt:133:9
 mul-out : tie.Need-mul-out Inv-loop μ-loop
-mul-out c = ?
+mul-out c = search needs
 
--- src/slots.rt:133:9
 slice-write-out : tie.Need-slice-write-out Inv-loop μ-loop
-slice-write-out c = ?
+slice-write-out c = search needs
 
--- src/slots.rt:132:9
 add-m : tie.Need-add-m Inv-loop μ-loop
-add-m c = ?
+add-m c = search needs
 
--- src/slots.rt:132:5
 loop-less : tie.Need-loop-less Inv-loop μ-loop
-loop-less c = ?
+loop-less c = search needs
 
--- src/slots.rt:132:5
 loop-again : tie.Need-loop-again Inv-loop μ-loop
-loop-again c = ?
+loop-again c = (omega arith, filled-more (c .before .before .loop .inv .1) (omega arith) (c .under-at .ensures))
 
--- src/slots.rt:129:1
 same-length : tie.Need-same-length Inv-loop μ-loop
-same-length c = ?
+same-length c = search needs
 
--- src/slots.rt:129:1
 returns : tie.Need-returns Inv-loop μ-loop
-returns c = ?
+returns c = filled-all (c .before .loop .inv .1) (omega arith)
 
 pub fill-unders-spec : {M : Type 1} → statement M
 fill-unders-spec =

@@ -1,30 +1,26 @@
+-- `gather::slots::over_at` meets its contract. Assumes nothing.
 use borrow.Author.Needs.{needs}
+use borrow.Author.Tests.{lt-ltb, le-ltb, eq-eqb, ne-eqb}
+use Rattle.gather.specs.Slots.{overAt}
 use Rattle.gather.proofs.slots.over_at.Statement.{statement}
 use Rattle.gather.proofs.slots.over_at.Tie as tie
-use Rattle.gather.proofs.slots.over_at.Reads as reads
-use Rattle.gather.proofs.slots.over_at.Lts as lts
-use Rattle.places.proofs.Pos.above.Reads as above-reads
-use Rattle.places.proofs.Pos.beside.Reads as beside-reads
 
--- src/slots.rt:78:40
 add-t4 : tie.Need-add-t4
 add-t4 c = search needs
 
--- src/slots.rt:78:9
 beside-requires : tie.Need-beside-requires
 beside-requires c κs = search needs
 
--- src/slots.rt:78:9
 returns : tie.Need-returns
-returns c = ?
+unfolding overAt
+returns c = rw (lt-ltb _ 4 (c .before .if1 .taken)) (c .beside .ensures)
 
--- src/slots.rt:80:5
 above-requires : tie.Need-above-requires
 above-requires c κs = search needs
 
--- src/slots.rt:74:1
 returns-2 : tie.Need-returns-2
-returns-2 c = ?
+unfolding overAt
+returns-2 c = rw (le-ltb _ 4 (c .before .if1 .left)) (c .above .ensures)
 
 pub over-at-spec : {M : Type 1} → statement M
 over-at-spec = tie.close (tie.spec add-t4 beside-requires returns above-requires returns-2)

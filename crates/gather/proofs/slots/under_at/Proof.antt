@@ -1,58 +1,46 @@
+-- `gather::slots::under_at` meets its contract, by what the look-up finds. Assumes nothing.
 use borrow.Author.Needs.{needs}
+use mathlib.Core.Path.{sym, _∙_}
+use borrow.Author.Tests.{not-true, not-false}
+use Rattle.gather.specs.Slots.{slotOf, underAt}
 use Rattle.gather.proofs.slots.under_at.Statement.{statement}
 use Rattle.gather.proofs.slots.under_at.Tie as tie
-use Rattle.gather.proofs.slots.under_at.Reads as reads
-use Rattle.gather.proofs.slots.under_at.Lts as lts
-use Rattle.electrical.proofs.edges.under.Reads as under-reads
-use Rattle.gather.proofs.slots.over_at.Reads as over-at-reads
-use Rattle.gather.proofs.slots.slot_of.Reads as slot-of-reads
-use Rattle.world.proofs.find.find.Reads as find-reads
-use Rattle.world.proofs.row.pos_of.Reads as pos-of-reads
-use Rattle.world.proofs.traits.redstone_traits.Reads as redstone-traits-reads
 
--- src/slots.rt:110:9
 redstone-traits-requires : tie.Need-redstone-traits-requires
 redstone-traits-requires c κs = search needs
 
--- src/slots.rt:111:9
 returns : tie.Need-returns
-returns c = ?
+unfolding underAt
+returns c = rw (← c .before .before .redstone-traits .ensures, not-true (c .before .before .redstone-traits .result .weak) (c .if1 .taken))
 
--- src/slots.rt:113:44
 pos-of-requires : tie.Need-pos-of-requires
 pos-of-requires c κs = search needs
 
--- src/slots.rt:113:36
 over-at-requires : tie.Need-over-at-requires
 over-at-requires c κs = search needs
 
--- src/slots.rt:113:24
 find-requires : tie.Need-find-requires
 find-requires c κs = search needs
 
--- src/slots.rt:113:19
 enum-known-j : tie.Need-enum-known-j
 enum-known-j c = search needs
 
--- src/slots.rt:114:9
 enum-told : tie.Need-enum-told
 enum-told c = search needs
 
--- src/slots.rt:114:9
 returns-2 : tie.Need-returns-2
-returns-2 c = ?
+unfolding underAt slotOf
+returns-2 c = rw (← c .before .before .before .before .before .before .before .redstone-traits .ensures, not-false (c .before .before .before .before .before .before .before .redstone-traits .result .weak) (c .before .before .before .before .before .if1 .left), ← c .before .before .before .before .pos-of .ensures, ← c .before .before .before .over-at .ensures, ← c .before .before .find .ensures, c .enum-told .given .1)
 
--- src/slots.rt:116:16
 under-requires : tie.Need-under-requires
 under-requires c κs = search needs
 
--- src/slots.rt:116:5
 slot-of-requires : tie.Need-slot-of-requires
 slot-of-requires c κs = search needs
 
--- src/slots.rt:107:1
 returns-3 : tie.Need-returns-3
-returns-3 c = ?
+unfolding underAt slotOf
+returns-3 c = rw (← c .before .before .before .before .before .before .before .before .before .before .redstone-traits .ensures, not-false (c .before .before .before .before .before .before .before .before .before .before .redstone-traits .result .weak) (c .before .before .before .before .before .before .before .before .if1 .left), ← c .before .before .before .before .before .before .before .pos-of .ensures, ← c .before .before .before .before .before .before .over-at .ensures, ← c .before .before .before .before .before .find .ensures, c .before .before .before .j .given .1, ← c .before .under .ensures) (c .slot-of .ensures)
 
 pub under-at-spec : {M : Type 1} → statement M
 under-at-spec =
