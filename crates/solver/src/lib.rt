@@ -1,6 +1,7 @@
 // Settling: `solve_instantaneous`.
 mod round;
 mod settle;
+mod solve;
 
 ghost use mathlib.Core.Path.{_≡_};
 

@@ -13,7 +13,7 @@ ghost use Rattle.network.specs.Settled.{roundsOf, settled};
 ghost use Rattle.world.specs.Rows.{rows};
 ghost use Rattle.electrical.specs.Edges.{networkOf};
 ghost use Rattle.solver.specs.Rounds.{firstSignal};
-ghost use Rattle.solver.specs.Prepared.{Prepared};
+ghost use Rattle.solver.specs.Prepared.{Prepared, Buffers, Outputs};
 ghost use Rattle.solver.specs.Outcome.{writtenBy, Ran, Solves};
 
 // Rounds until one answers, while the limit lasts: each from the last one's signals, which stand in s0, and its weak power in w0.
@@ -77,7 +77,7 @@ fn write(
     }
 }
 
-// Rounds over lent columns, of which w0 is 0 at every row.
+// Rounds over the prepared columns and lent buffers.
 pub fn settle_in(
     profile: &[u8],
     table: &[u8],
@@ -98,9 +98,9 @@ pub fn settle_in(
     strong: &mut [u8],
 ) -> Outcome
     requires { ⌜ Prepared (now profile) (now table) (now emitted) (now base) (now direct) (now feeders) (now unders) empty ⌝ }
-    requires { ⌜ (now charged ≡ strongOf (networkOf (now profile) (now table)) (now emitted)) × (now w0 ≡ nowhere (networkOf (now profile) (now table))) ⌝ }
-    requires { ⌜ (length (now s0) ≡ rows (now table)) × (length (now s1) ≡ rows (now table)) × (length (now w1) ≡ rows (now table)) ⌝ }
-    requires { ⌜ (length (now signal) ≡ rows (now table)) × (length (now weak) ≡ rows (now table)) × (length (now strong) ≡ rows (now table)) ⌝ }
+    requires { ⌜ now charged ≡ strongOf (networkOf (now profile) (now table)) (now emitted) ⌝ }
+    requires { ⌜ Buffers (now profile) (now table) (now s0) (now w0) (now s1) (now w1) ⌝ }
+    requires { ⌜ Outputs (now table) (now signal) (now weak) (now strong) ⌝ }
     ensures { λ r. ⌜ Solves (roundsOf (networkOf (now (profile .entry)) (now (table .entry))) (now (emitted .entry))) (settled (networkOf (now (profile .entry)) (now (table .entry))) (now (emitted .entry))) limit (now (signal .entry)) (now (weak .entry)) (now (strong .entry)) (now (signal .exit)) (now (weak .exit)) (now (strong .exit)) r ⌝ }
 {
     first_signals(table, emitted, s0);

@@ -1,6 +1,5 @@
 -- `gather::arrivals::arriving` meets its contract. The loop's invariant: `best` is the largest level that arrives from the first j sources. Assumes nothing.
 use borrow.Author.Needs.{needs}
-
 use mathlib.Core.Path.{_≡_, sym, _∙_}
 use mathlib.Core.Logic.{⊎-elim}
 use Prim.Native.Nat.{_-_, _≤_}
@@ -36,18 +35,17 @@ loop-less : tie.Need-loop-less Inv-loop μ-loop
 loop-less c = search needs
 
 loop-again : tie.Need-loop-again Inv-loop μ-loop
-loop-again c =     let l = c .before .before .before .loop in
+loop-again c = let l = c .before .before .before .loop in
     let a = c .before .before .before .before .before .before .before .args in
-    let g : _ ≡ arriving (l .j) (reaches (a .edge) (a .profile .now) (a .table .now)) (row (a .levels .now)) (a .i) = l .inv .1 in
-    (
+    let g : _ ≡ arriving (l .j) (reaches (a .edge) (a .profile .now) (a .table .now)) (row (a .levels .now)) (a .i) = l .inv .1 in (
       omega arith,
       ⊎-elim (λ w. w .3 ∙ arriving-above _ _ _ _ g (w .0 .taken) (sym (w .1 .ensures) ∙ w .2 .taken))
-      (⊎-elim (λ w. w .3 ∙ arriving-past _ _ _ _ g (sym (w .1 .ensures) ∙ w .2 .left)) (λ w. w .1 ∙ arriving-low _ _ _ _ g (w .0 .left)))
-      (c .if1 .came),
+          (⊎-elim (λ w. w .3 ∙ arriving-past _ _ _ _ g (sym (w .1 .ensures) ∙ w .2 .left)) (λ w. w .1 ∙ arriving-low _ _ _ _ g (w .0 .left)))
+          (c .if1 .came),
     )
 
 returns : tie.Need-returns Inv-loop μ-loop
-returns c =     let full : c .before .loop .j ≡ length (c .before .before .before .before .before .args .levels .now) = omega arith in
+returns c = let full : c .before .loop .j ≡ length (c .before .before .before .before .before .args .levels .now) = omega arith in
     rw full at (c .before .loop .inv .1)
 
 pub arriving-spec : {M : Type 1} → statement M

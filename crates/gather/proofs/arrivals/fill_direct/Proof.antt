@@ -1,6 +1,5 @@
 -- `gather::arrivals::fill_direct` meets its contract. The loop's invariant: the first i entries are the rule's. Assumes nothing.
 use borrow.Author.Needs.{needs}
-
 use Prim.Native.Nat.{_-_, _≤_}
 use native.Mathlib.Omega.{arith}
 use lib.ListN.{length}

@@ -1,6 +1,5 @@
 -- `gather::arrivals::fill_emitted` meets its contract. The loop's invariant: the first i rows are the rule's. Assumes nothing.
 use borrow.Author.Needs.{needs}
-
 use mathlib.Core.Path.{_∙_}
 use Prim.Native.Nat.{_-_, _≤_}
 use native.Mathlib.Omega.{arith}

@@ -1,6 +1,5 @@
 -- `gather::arrivals::unmapped` meets its contract. The loop's invariant: none of the first i rows receives power. Assumes nothing.
 use borrow.Author.Needs.{needs}
-
 use mathlib.Core.Path.{_≡_, sym, _∙_}
 use mathlib.Core.Bool.{true, false}
 use Prim.Native.Nat.{ℕ, _-_, _≤_, _<_}
@@ -34,7 +33,7 @@ conducts-requires c κs = search needs
 
 returns : tie.Need-returns Inv-loop μ-loop
 unfolding networkOf
-returns c =     let a = c .before .before .before .before .before .before .before .before .args in
+returns c = let a = c .before .before .before .before .before .before .before .before .args in
     let on : conducts (traits (a .profile .now) (a .table .now) (c .before .before .before .before .loop .i)) ≡ true = cc in
     sym (unmapped-false (networkOf (a .profile .now) (a .table .now)) (c .before .before .before .before .loop .i) (omega arith) on)
 
@@ -45,7 +44,7 @@ loop-less : tie.Need-loop-less Inv-loop μ-loop
 loop-less c = search needs
 
 loop-again : tie.Need-loop-again Inv-loop μ-loop
-loop-again c =     let a = c .before .before .before .before .before .before .before .before .args in
+loop-again c = let a = c .before .before .before .before .before .before .before .before .args in
     let off : conducts (traits (a .profile .now) (a .table .now) (c .before .before .before .before .loop .i)) ≡ false = cc in
     (omega arith, below-more _ _ (c .before .before .before .before .loop .inv .1) off)
 

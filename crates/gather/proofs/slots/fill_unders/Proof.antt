@@ -1,6 +1,5 @@
 -- `gather::slots::fill_unders` meets its contract. The loop's invariant: the first m entries are the rule's. Assumes nothing.
 use borrow.Author.Needs.{needs}
-
 use Prim.Native.Nat.{_-_, _≤_}
 use native.Mathlib.Omega.{arith}
 use lib.ListN.{length}

@@ -1,8 +1,7 @@
 -- `solver::settle::settle_in` meets its contract. Assumes nothing.
 use borrow.Author.Needs.{needs}
+
 use mathlib.Core.Path.{_≡_, refl, ap, sym, _∙_}
-use Prim.Native.Nat.{ℕ}
-use lib.ListN.{length}
 use Rattle.columns.specs.Column.{tabulate}
 use Rattle.network.specs.Network.{strongOf}
 use Rattle.electrical.specs.Edges.{networkOf}
@@ -15,14 +14,20 @@ first-signals-requires : tie.Need-first-signals-requires
 first-signals-requires c κs = search needs
 
 run-requires : tie.Need-run-requires
-run-requires c κs = let q = c .before .before .before .before .before .before .before .before .before .before .before .before .before .before .before .before .before .before .before .before .before .before .before .pre in
-    (q .0, ((c .before .before .before .before .before .before .first-signals .ensures ∙ ap (λ n. tabulate n (firstSignal (c .before .before .before .before .before .before .before .before .before .before .before .before .before .before .before .before .before .before .before .before .before .before .before .args .table .now) (c .before .before .before .before .before .before .before .before .before .before .before .before .before .before .before .before .before .before .before .before .before .before .before .args .emitted .now))) (q .1 .1 .0 .0), q .1 .0 .1), (q .1 .1 .0 .1, q .1 .1 .0 .2)))
+run-requires c κs =     let (prepared, (charged, (buffers, outputs))) = c .before .before .before .before .before .before .before .before .before .before .before .before .before .before .before .before .before .before .before .before .before .before .before .pre in
+    let first =
+    c .before .before .before .before .before .before .first-signals .ensures ∙ ap (λ n. tabulate n (firstSignal (c .before .before .before .before .before .before .before .before .before .before .before .before .before .before .before .before .before .before .before .before .before .before .before .args .table .now) (c .before .before .before .before .before .before .before .before .before .before .before .before .before .before .before .before .before .before .before .before .before .before .before .args .emitted .now))) (buffers .s0-rows) in
+    (prepared, ((first, buffers .w0-is), (buffers .s1-rows, buffers .w1-rows)))
 
 write-requires : tie.Need-write-requires
 unfolding strongOf networkOf
-write-requires c κs = let q = c .before .before .before .before .before .before .before .before .before .before .before .before .before .before .before .before .before .before .before .before .before .before .before .before .before .before .before .before .before .before .before .before .before .before .before .before .before .pre in
-    let k = c .before .before .before .before .before .before .before .before .before .before .before .before .before .run .kept in
-    (k .1 .1 .1 .1 .1 .1 .1 .1 .1 .1 .1 .0 ∙ q .1 .1 .0 .1 ∙ sym (q .1 .1 .1 .0), k .1 .1 .1 .1 .1 .1 .1 .1 .1 .1 .1 .1 .0 ∙ q .1 .1 .0 .2 ∙ sym (q .1 .1 .1 .1), made-rows _ (q .1 .0 .0) refl ∙ sym (q .1 .1 .1 .2))
+write-requires c κs =     let (prepared, (charged, (buffers, outputs))) = c .before .before .before .before .before .before .before .before .before .before .before .before .before .before .before .before .before .before .before .before .before .before .before .before .before .before .before .before .before .before .before .before .before .before .before .before .before .pre in
+    let kept = c .before .before .before .before .before .before .before .before .before .before .before .before .before .run .kept .1 .1 .1 .1 .1 .1 .1 .1 .1 .1 .1 in
+    (
+      kept .0 ∙ buffers .s1-rows ∙ sym (outputs .signal-rows),
+      kept .1 .0 ∙ buffers .w1-rows ∙ sym (outputs .weak-rows),
+      made-rows _ charged refl ∙ sym (outputs .strong-rows),
+    )
 
 same-length : tie.Need-same-length
 same-length c = search needs
@@ -46,9 +51,8 @@ same-length-7 : tie.Need-same-length-7
 same-length-7 c = search needs
 
 returns : tie.Need-returns
-returns c = let q = c .before .before .before .before .before .before .before .before .before .before .before .before .before .before .before .before .before .before .before .before .before .before .before .before .before .before .before .before .before .before .before .before .before .before .before .before .before .before .before .before .before .before .before .before .pre in
-    let w = c .before .before .before .before .before .before .write .ensures in
-    solves (c .before .before .before .before .before .before .before .before .before .before .before .before .before .before .before .before .before .before .before .before .run .ensures) (q .1 .0 .0) (w .0) (w .1 .0) (w .1 .1)
+returns c =     let (s, (w, g)) = c .before .before .before .before .before .before .write .ensures in
+    solves (c .before .before .before .before .before .before .before .before .before .before .before .before .before .before .before .before .before .before .before .before .run .ensures) (c .before .before .before .before .before .before .before .before .before .before .before .before .before .before .before .before .before .before .before .before .before .before .before .before .before .before .before .before .before .before .before .before .before .before .before .before .before .before .before .before .before .before .before .before .pre .1 .0) s w g
 
 pub settle-in-spec : {M : Type 1} → statement M
 settle-in-spec =

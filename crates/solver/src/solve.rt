@@ -1,0 +1,38 @@
+// The columns that no round changes, then the rounds. Each function lends the next one the room that it declares.
+use crate::Outcome;
+use crate::settle::settle_in;
+use gather::arrivals;
+use gather::arrivals::Edge;
+use gather::slots;
+use world::row::rows;
+ghost use mathlib.Core.Path.{_≡_};
+ghost use lib.ListN.{length};
+ghost use Rattle.refusals.proofs.Accepted.{Table};
+ghost use Rattle.electrical.specs.Answer.{roundsOf, settled};
+ghost use Rattle.solver.specs.Prepared.{Prepared, Made, Room, Buffers, Outputs};
+ghost use Rattle.solver.specs.Outcome.{Solves};
+
+// What no round changes, and whether the power map is empty.
+fn prepare(
+    profile: &[u8],
+    table: &[u8],
+    devices: &[u8],
+    emitted: &mut [u8],
+    charged: &mut [u8],
+    base: &mut [u8],
+    direct: &mut [u8],
+    feeders: &mut [u16],
+    unders: &mut [u16],
+) -> bool
+    requires { ⌜ Table (now table) ⌝ }
+    requires { ⌜ Room (now table) (now emitted) (now charged) (now base) (now direct) (now feeders) (now unders) ⌝ }
+    ensures { λ r. ⌜ Made (now (profile .entry)) (now (table .entry)) (now (devices .entry)) (now (emitted .exit)) (now (charged .exit)) (now (base .exit)) (now (direct .exit)) (now (feeders .exit)) (now (unders .exit)) r ⌝ }
+{
+    arrivals::fill_emitted(table, devices, emitted);
+    arrivals::fill_arriving(Edge::Strongly, profile, table, emitted, charged);
+    arrivals::fill_arriving(Edge::Through, profile, table, charged, base);
+    arrivals::fill_direct(profile, table, emitted, charged, direct);
+    slots::fill_feeders(profile, table, feeders);
+    slots::fill_unders(profile, table, unders);
+    arrivals::unmapped(profile, table)
+}
