@@ -8,14 +8,18 @@ use Rattle.columns.specs.Column.{Bytes, Column, row, tabulate}
 use Rattle.columns.proofs.Columns.{same-rule}
 use Rattle.network.specs.Levels.{arriving}
 use Rattle.network.specs.Network.{strongOf}
+use Rattle.network.specs.Settled as Network
 use Rattle.network.specs.Laws.Loop.{unmapped}
 use Rattle.world.specs.Rows.{rows}
 use Rattle.refusals.proofs.Accepted.{Table}
 use Rattle.electrical.specs.Emitted as Emitted
+use Rattle.electrical.specs.Answer as Answer
 use Rattle.electrical.specs.Edges.{strongly, through, networkOf}
 use Rattle.gather.specs.Arrivals.{directAt}
 use Rattle.gather.specs.Slots as Slots
 use Rattle.solver.specs.Prepared.{Prepared, Made, Room}
+use Rattle.solver.specs.Outcome.{Solves}
+use Rattle.solver.specs.declared.Outcome.{Outcome}
 use Rattle.solver.proofs.Rounds.{made-rows}
 
 module _ (p : Bytes) (d : Column) {t : Bytes} {e₀ g₀ base₀ direct₀ feeders₀ unders₀ e g base direct feeders unders : Column} {empty : Bool}
@@ -53,3 +57,10 @@ module _ (p : Bytes) (d : Column) {t : Bytes} {e₀ g₀ base₀ direct₀ feede
               empty-is = empty-is;
             };
       }
+
+-- what settles the emitted levels settles the table
+pub of-table : (p t : Bytes) (d : Column) {e : Column} → e ≡ Emitted.emitted t d → {limit : ℕ} {signal weak strong signal′ weak′ strong′ : Column} {r : Outcome}
+    → Solves (Network.roundsOf (networkOf p t) e) (Network.settled (networkOf p t) e) limit signal weak strong signal′ weak′ strong′ r
+    → Solves (Answer.roundsOf p t d) (Answer.settled p t d) limit signal weak strong signal′ weak′ strong′ r
+unfolding Answer.roundsOf Answer.settled
+of-table p t d h s = rw (← h) s

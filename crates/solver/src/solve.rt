@@ -36,3 +36,61 @@ fn prepare(
     slots::fill_unders(profile, table, unders);
     arrivals::unmapped(profile, table)
 }
+
+// Settling in lent room.
+fn solve_in(
+    profile: &[u8],
+    table: &[u8],
+    devices: &[u8],
+    limit: u32,
+    emitted: &mut [u8],
+    charged: &mut [u8],
+    base: &mut [u8],
+    direct: &mut [u8],
+    feeders: &mut [u16],
+    unders: &mut [u16],
+    s0: &mut [u8],
+    w0: &mut [u8],
+    s1: &mut [u8],
+    w1: &mut [u8],
+    signal: &mut [u8],
+    weak: &mut [u8],
+    strong: &mut [u8],
+) -> Outcome
+    requires { ⌜ Table (now table) ⌝ }
+    requires { ⌜ Room (now table) (now emitted) (now charged) (now base) (now direct) (now feeders) (now unders) ⌝ }
+    requires { ⌜ Buffers (now profile) (now table) (now s0) (now w0) (now s1) (now w1) ⌝ }
+    requires { ⌜ Outputs (now table) (now signal) (now weak) (now strong) ⌝ }
+    ensures { λ r. ⌜ Solves (roundsOf (now (profile .entry)) (now (table .entry)) (now (devices .entry))) (settled (now (profile .entry)) (now (table .entry)) (now (devices .entry))) limit (now (signal .entry)) (now (weak .entry)) (now (strong .entry)) (now (signal .exit)) (now (weak .exit)) (now (strong .exit)) r ⌝ }
+{
+    let empty = prepare(
+        profile,
+        table,
+        devices,
+        emitted,
+        charged,
+        base,
+        direct,
+        feeders,
+        unders,
+    );
+    settle_in(
+        profile,
+        table,
+        emitted,
+        charged,
+        base,
+        direct,
+        feeders,
+        unders,
+        empty,
+        limit,
+        s0,
+        w0,
+        s1,
+        w1,
+        signal,
+        weak,
+        strong,
+    )
+}

@@ -1,6 +1,5 @@
 -- `solver::settle::settle_in` meets its contract. Assumes nothing.
 use borrow.Author.Needs.{needs}
-
 use mathlib.Core.Path.{_≡_, refl, ap, sym, _∙_}
 use Rattle.columns.specs.Column.{tabulate}
 use Rattle.network.specs.Network.{strongOf}
@@ -14,16 +13,15 @@ first-signals-requires : tie.Need-first-signals-requires
 first-signals-requires c κs = search needs
 
 run-requires : tie.Need-run-requires
-run-requires c κs =     let (prepared, (charged, (buffers, outputs))) = c .before .before .before .before .before .before .before .before .before .before .before .before .before .before .before .before .before .before .before .before .before .before .before .pre in
+run-requires c κs = let (prepared, (charged, (buffers, outputs))) = c .before .before .before .before .before .before .before .before .before .before .before .before .before .before .before .before .before .before .before .before .before .before .before .pre in
     let first =
     c .before .before .before .before .before .before .first-signals .ensures ∙ ap (λ n. tabulate n (firstSignal (c .before .before .before .before .before .before .before .before .before .before .before .before .before .before .before .before .before .before .before .before .before .before .before .args .table .now) (c .before .before .before .before .before .before .before .before .before .before .before .before .before .before .before .before .before .before .before .before .before .before .before .args .emitted .now))) (buffers .s0-rows) in
     (prepared, ((first, buffers .w0-is), (buffers .s1-rows, buffers .w1-rows)))
 
 write-requires : tie.Need-write-requires
 unfolding strongOf networkOf
-write-requires c κs =     let (prepared, (charged, (buffers, outputs))) = c .before .before .before .before .before .before .before .before .before .before .before .before .before .before .before .before .before .before .before .before .before .before .before .before .before .before .before .before .before .before .before .before .before .before .before .before .before .pre in
-    let kept = c .before .before .before .before .before .before .before .before .before .before .before .before .before .run .kept .1 .1 .1 .1 .1 .1 .1 .1 .1 .1 .1 in
-    (
+write-requires c κs = let (prepared, (charged, (buffers, outputs))) = c .before .before .before .before .before .before .before .before .before .before .before .before .before .before .before .before .before .before .before .before .before .before .before .before .before .before .before .before .before .before .before .before .before .before .before .before .before .pre in
+    let kept = c .before .before .before .before .before .before .before .before .before .before .before .before .before .run .kept .1 .1 .1 .1 .1 .1 .1 .1 .1 .1 .1 in (
       kept .0 ∙ buffers .s1-rows ∙ sym (outputs .signal-rows),
       kept .1 .0 ∙ buffers .w1-rows ∙ sym (outputs .weak-rows),
       made-rows _ charged refl ∙ sym (outputs .strong-rows),
@@ -51,7 +49,7 @@ same-length-7 : tie.Need-same-length-7
 same-length-7 c = search needs
 
 returns : tie.Need-returns
-returns c =     let (s, (w, g)) = c .before .before .before .before .before .before .write .ensures in
+returns c = let (s, (w, g)) = c .before .before .before .before .before .before .write .ensures in
     solves (c .before .before .before .before .before .before .before .before .before .before .before .before .before .before .before .before .before .before .before .before .run .ensures) (c .before .before .before .before .before .before .before .before .before .before .before .before .before .before .before .before .before .before .before .before .before .before .before .before .before .before .before .before .before .before .before .before .before .before .before .before .before .before .before .before .before .before .before .before .pre .1 .0) s w g
 
 pub settle-in-spec : {M : Type 1} → statement M

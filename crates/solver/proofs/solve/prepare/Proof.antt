@@ -1,6 +1,5 @@
 -- `solver::solve::prepare` meets its contract. Assumes nothing.
 use borrow.Author.Needs.{needs}
-
 use Rattle.solver.proofs.Preparing.{made}
 use Rattle.solver.proofs.solve.prepare.Statement.{statement}
 use Rattle.solver.proofs.solve.prepare.Tie as tie
@@ -45,7 +44,7 @@ same-length-6 : tie.Need-same-length-6
 same-length-6 c = search needs
 
 returns : tie.Need-returns
-returns c =     let (accepted, room) = c .before .before .before .before .before .before .before .before .before .before .before .before .before .before .before .before .before .before .before .before .before .before .before .before .before .before .before .before .before .before .before .before .before .before .before .before .before .before .pre in
+returns c = let (accepted, room) = c .before .before .before .before .before .before .before .before .before .before .before .before .before .before .before .before .before .before .before .before .before .before .before .before .before .before .before .before .before .before .before .before .before .before .before .before .before .before .pre in
     made (c .before .before .before .before .before .before .before .before .before .before .before .before .before .before .before .before .before .before .before .before .before .before .before .before .before .before .before .before .before .before .before .before .before .before .before .before .before .before .args .profile .now) (c .before .before .before .before .before .before .before .before .before .before .before .before .before .before .before .before .before .before .before .before .before .before .before .before .before .before .before .before .before .before .before .before .before .before .before .before .before .before .args .devices .now) accepted room (c .before .before .before .before .before .before .before .before .before .before .before .before .before .before .before .before .before .before .before .before .before .before .before .before .before .before .before .fill-emitted .ensures) (c .before .before .before .before .before .before .before .before .before .before .before .before .before .before .before .before .before .before .before .before .before .before .fill-arriving .ensures) (c .before .before .before .before .before .before .before .before .before .before .before .before .before .before .before .before .before .fill-arriving2 .ensures)
     (c .before .before .before .before .before .before .before .before .before .before .before .fill-direct .ensures) (c .before .before .before .before .before .before .before .fill-feeders .ensures) (c .before .before .before .fill-unders .ensures) (c .unmapped .ensures)
 
