@@ -7,6 +7,7 @@ use gather::slots;
 use world::row::rows;
 ghost use mathlib.Core.Path.{_≡_};
 ghost use lib.ListN.{length};
+ghost use Rattle.world.specs.Rows.{rows as rowsOf};
 ghost use Rattle.refusals.proofs.Accepted.{Table};
 ghost use Rattle.electrical.specs.Answer.{roundsOf, settled};
 ghost use Rattle.solver.specs.Prepared.{Prepared, Made, Room, Buffers, Outputs};
@@ -89,6 +90,53 @@ fn solve_in(
         w0,
         s1,
         w1,
+        signal,
+        weak,
+        strong,
+    )
+}
+
+// Settling over columns of the emitted levels, the strong power and what arrives from both.
+fn solve_over(
+    profile: &[u8],
+    table: &[u8],
+    devices: &[u8],
+    limit: u32,
+    emitted: &mut [u8],
+    charged: &mut [u8],
+    base: &mut [u8],
+    direct: &mut [u8],
+    signal: &mut [u8],
+    weak: &mut [u8],
+    strong: &mut [u8],
+) -> Outcome
+    requires { ⌜ Table (now table) ⌝ }
+    requires { ⌜ (length (now emitted) ≡ rowsOf (now table)) × (length (now charged) ≡ rowsOf (now table)) × (length (now base) ≡ rowsOf (now table)) × (length (now direct) ≡ rowsOf (now table)) ⌝ }
+    requires { ⌜ Outputs (now table) (now signal) (now weak) (now strong) ⌝ }
+    ensures { λ r. ⌜ Solves (roundsOf (now (profile .entry)) (now (table .entry)) (now (devices .entry))) (settled (now (profile .entry)) (now (table .entry)) (now (devices .entry))) limit (now (signal .entry)) (now (weak .entry)) (now (strong .entry)) (now (signal .exit)) (now (weak .exit)) (now (strong .exit)) r ⌝ }
+{
+    let n = rows(table);
+    let mut feeders = [0u16; 12288];
+    let mut unders = [0u16; 5120];
+    let mut s0 = [0u8; 1024];
+    let mut w0 = [0u8; 1024];
+    let mut s1 = [0u8; 1024];
+    let mut w1 = [0u8; 1024];
+    solve_in(
+        profile,
+        table,
+        devices,
+        limit,
+        emitted,
+        charged,
+        base,
+        direct,
+        &mut feeders[..n * 12],
+        &mut unders[..n * 5],
+        &mut s0[..n],
+        &mut w0[..n],
+        &mut s1[..n],
+        &mut w1[..n],
         signal,
         weak,
         strong,
