@@ -9,8 +9,8 @@ use Rattle.network.specs.Network.{Network, State, strongOf}
 use Rattle.network.specs.Settled as Network
 use Rattle.network.specs.Laws.Loop.{Gone}
 use Rattle.refusals.specs.declared.Checked.{Checked}
-use Rattle.refusals.specs.declared.Checked.the-variants.{Accepted}
-use Rattle.refusals.specs.Check.{refuseUnless}
+use Rattle.refusals.specs.declared.Checked.the-variants.{Accepted, Refused}
+use Rattle.refusals.specs.Check.{refuseUnless, answerOf}
 use Rattle.electrical.specs.Answer.{Columns}
 use Rattle.solver.specs.declared.Outcome.{Outcome}
 use Rattle.solver.specs.declared.Outcome.the-variants.{Settled, Unsettled}
@@ -27,6 +27,11 @@ limited rounds limit = refuseUnless 8 (leb rounds limit) Accepted
 abbrev pub writtenBy : Outcome → Column → Column → Column
 writtenBy (Settled rounds) old new = new
 writtenBy Unsettled old new = old
+
+-- the number that a call answers
+abbrev pub answerBy : Outcome → ℕ
+answerBy (Settled rounds) = rounds
+answerBy Unsettled = answerOf (Refused 8 0) 0
 
 -- The loop of rounds: how it ends, and that the signals s and the weak power w that it leaves are settled where the limit is enough.
 pub record Ran (N : Network) (e : Column) (limit : ℕ) (s w : Column) (r : Outcome) : Type 0 where

@@ -1,12 +1,11 @@
--- `solver::solve::solve_over` meets its contract. Assumes nothing.
+-- `solver::prepare::solve_over` meets its contract. Assumes nothing.
 use borrow.Author.Needs.{needs}
-
 use mathlib.Core.Path.{ap, sym, _∙_}
 use Prim.Native.Nat.{_*_}
 use native.Mathlib.Omega.{arith}
 use Rattle.solver.proofs.Lending.{length-zeros, fits, zeros-nowhere}
-use Rattle.solver.proofs.solve.solve_over.Statement.{statement}
-use Rattle.solver.proofs.solve.solve_over.Tie as tie
+use Rattle.solver.proofs.prepare.solve_over.Statement.{statement}
+use Rattle.solver.proofs.prepare.solve_over.Tie as tie
 
 rows-requires : tie.Need-rows-requires
 rows-requires c κs = search needs
@@ -54,11 +53,10 @@ slice-aggregate-solve-in-6 : tie.Need-slice-aggregate-solve-in-6
 slice-aggregate-solve-in-6 c = sym (length-zeros _ 1024 (omega (arith, c .before .before .before .before .before .before .before .before .before .before .before .before .before .before .before .before .before .before .before .before .before .pre .0 .few, c .before .before .before .before .before .before .before .before .before .before .rows .ensures)))
 
 solve-in-requires : tie.Need-solve-in-requires
-solve-in-requires c κs =     let (accepted, (columns, outputs)) = c .before .before .before .before .before .before .before .before .before .before .before .before .before .before .before .before .before .before .before .before .before .before .before .before .pre in
+solve-in-requires c κs = let (accepted, (columns, outputs)) = c .before .before .before .before .before .before .before .before .before .before .before .before .before .before .before .before .before .before .before .before .before .before .before .before .pre in
     let is = c .before .before .before .before .before .before .before .before .before .before .before .before .before .rows .ensures in
     let small = fits accepted _ is in
-    let whole = length-zeros _ 1024 small ∙ is in
-    (
+    let whole = length-zeros _ 1024 small ∙ is in (
       accepted,
       (
         record {

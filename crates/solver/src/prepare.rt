@@ -97,7 +97,7 @@ fn solve_in(
 }
 
 // Settling over columns of the emitted levels, the strong power and what arrives from both.
-fn solve_over(
+pub fn solve_over(
     profile: &[u8],
     table: &[u8],
     devices: &[u8],

@@ -1,8 +1,8 @@
--- `solver::solve::prepare` meets its contract. Assumes nothing.
+-- `solver::prepare::prepare` meets its contract. Assumes nothing.
 use borrow.Author.Needs.{needs}
 use Rattle.solver.proofs.Preparing.{made}
-use Rattle.solver.proofs.solve.prepare.Statement.{statement}
-use Rattle.solver.proofs.solve.prepare.Tie as tie
+use Rattle.solver.proofs.prepare.prepare.Statement.{statement}
+use Rattle.solver.proofs.prepare.prepare.Tie as tie
 
 fill-emitted-requires : tie.Need-fill-emitted-requires
 fill-emitted-requires c κs = search needs

@@ -1,7 +1,7 @@
--- `solver::solve::solve_in` meets its contract. Assumes nothing.
+-- `solver::prepare::solve_in` meets its contract. Assumes nothing.
 use Rattle.solver.proofs.Preparing.{of-table}
-use Rattle.solver.proofs.solve.solve_in.Statement.{statement}
-use Rattle.solver.proofs.solve.solve_in.Tie as tie
+use Rattle.solver.proofs.prepare.solve_in.Statement.{statement}
+use Rattle.solver.proofs.prepare.solve_in.Tie as tie
 
 prepare-requires : tie.Need-prepare-requires
 prepare-requires c κs = (c .before .before .before .before .before .before .before .before .before .before .before .before .before .before .before .before .before .before .before .before .before .before .pre .0, c .before .before .before .before .before .before .before .before .before .before .before .before .before .before .before .before .before .before .before .before .before .before .pre .1 .0)
