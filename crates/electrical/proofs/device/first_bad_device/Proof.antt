@@ -39,13 +39,13 @@ loop-less c = omega arith
 loop-again : tie.Need-loop-again Inv-loop μ-loop
 loop-again c =
     let l = c .before .before .before .before .before in
-    let e : isBadDevice (l .before .before .before .args .table .now) (l .before .before .before .args .devices .now) (l .loop .i) ≡ false = cc in
+    let e : isBadDevice (l .before .before .before .args .table .now) (l .before .before .before .args .devices .now) (l .loop .i) ≡ false = rw (← c .before .before .before .kind-of .ensures, ← c .before .before .byte-at .ensures, ← c .before .good-device .ensures, c .if1 .taken) in
     (omega arith, l .loop .inv .1 ∙ scan-miss _ _ _ (omega arith) e)
 
 returns : tie.Need-returns Inv-loop μ-loop
 returns c =
     let l = c .before .before .before .before .before in
-    let e : isBadDevice (l .before .before .before .args .table .now) (l .before .before .before .args .devices .now) (l .loop .i) ≡ true = cc in
+    let e : isBadDevice (l .before .before .before .args .table .now) (l .before .before .before .args .devices .now) (l .loop .i) ≡ true = rw (← c .before .before .before .kind-of .ensures, ← c .before .before .byte-at .ensures, ← c .before .good-device .ensures, c .if1 .left) in
     sym (l .loop .inv .1 ∙ scan-hit _ _ _ (omega arith) e)
 
 returns-2 : tie.Need-returns-2 Inv-loop μ-loop

@@ -19,7 +19,8 @@ arm-to-requires-4 c κs = search needs
 
 returns : tie.Need-returns
 unfolding alongArm
-returns c = rw or-none (cc)
+returns c =
+    rw (or-none, ← c .before .before .before .arm-to .ensures, ← c .before .before .arm-to2 .ensures, ← c .before .arm-to3 .ensures, ← c .arm-to4 .ensures)
 
 pub along-arm-spec : {M : Type 1} → statement M
 along-arm-spec =

@@ -31,7 +31,8 @@ is-beside-requires-4 c κs = search needs
 
 returns : tie.Need-returns
 unfolding adjacent
-returns c = rw or-none (cc)
+returns c =
+    rw (or-none, ← c .before .before .before .before .before .before .before .is-beside .ensures, ← c .before .before .before .before .before .before .is-beside2 .ensures, ← c .before .before .before .before .before .above .ensures, ← c .before .before .before .before .same .ensures, ← c .before .before .before .below .ensures, ← c .before .before .same2 .ensures, ← c .before .is-beside3 .ensures, ← c .is-beside4 .ensures)
 
 pub is-adjacent-spec : {M : Type 1} → statement M
 is-adjacent-spec =

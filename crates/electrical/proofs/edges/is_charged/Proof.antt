@@ -20,7 +20,7 @@ is-adjacent-requires c κs = search needs
 
 returns : tie.Need-returns
 unfolding isCharged
-returns c = λ p. rw (eq-eqb _ 11 (sym (c .before .before .before .before .kind-of .ensures) ∙ c .before .before .before .if1 .taken)) (cc)
+returns c = λ p. rw (eq-eqb _ 11 (sym (c .before .before .before .before .kind-of .ensures) ∙ c .before .before .before .if1 .taken), ← c .before .before .pos-of .ensures, ← c .before .pos-of2 .ensures) (c .is-adjacent .ensures)
 
 returns-2 : tie.Need-returns-2
 unfolding isCharged

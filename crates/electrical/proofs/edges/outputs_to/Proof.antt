@@ -23,7 +23,7 @@ is-at-requires c κs = search needs
 returns : tie.Need-returns
 unfolding outputsTo
 returns c =
-    λ p. rw (← c .before .before .before .before .before .kind-of .ensures, sym (c .before .before .before .before .is-diode .ensures) ∙ c .before .before .before .if1 .taken) (cc)
+    λ p. rw (← c .before .before .before .before .before .kind-of .ensures, sym (c .before .before .before .before .is-diode .ensures) ∙ c .before .before .before .if1 .taken, ← c .before .before .output-of .ensures, ← c .before .pos-of .ensures) (c .is-at .ensures)
 
 returns-2 : tie.Need-returns-2
 unfolding outputsTo
