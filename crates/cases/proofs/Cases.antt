@@ -2,8 +2,8 @@
 -- Assumes nothing.
 use mathlib.Core.Bool.{Bool, true, _&&_}
 use mathlib.Core.List.{List, [], _∷_, _++_}
-use Prim.Native.Nat.{ℕ, zero, suc, _-_}
-use lib.ListN.{getD}
+use Prim.Native.Nat.{ℕ, zero, suc, _+_, _*_, _-_}
+use lib.ListN.{getD, take, drop}
 use lib.Dec.{T}
 use lib.IntN.{pos, negsuc}
 use Rattle.columns.specs.Column.{Bytes, Column, same}
@@ -16,6 +16,7 @@ use Rattle.refusals.specs.Check.{answerOf}
 use Rattle.wire.specs.declared.transfer.DustTransfer.{DustTransfer}
 use Rattle.wire.specs.declared.transfer.DustTransfer.the-variants.{Horizontal, Rise, FallThroughConductor, NoTransfer}
 use Rattle.wire.specs.Transfer.{dustTransfer}
+use Rattle.redraw.specs.Redraw.{updateWireShapes}
 use Rattle.electrical.specs.Answer.{roundsOf, settled, checkSettle}
 use Rattle.sim.specs.State.{sixteen, deviceOf, togglesOf, candidateOf, delayOf, bitsSet}
 use Rattle.sim.specs.Fresh.{freshDevices, freshState}
@@ -90,6 +91,19 @@ rising s =
     let low = cell (pos 0) (pos 1) (pos 0) in
     let high = cell (pos 1) (pos 2) (pos 0) in
     transferNumber (dustTransfer benchProfile t low high) ∷ transferNumber (dustTransfer benchProfile t high low) ∷ []
+
+-- ---- redrawing, under the bench profile
+
+-- bytes 23 to 27 of row i
+armsAt : Bytes → ℕ → Bytes
+armsAt t i = take 5 (drop (i * 32 + 23) t)
+
+-- the stored arms of test 6's two dusts, redrawn past the middle block of the shape
+redrawnPast : ℕ → Column
+unfolding computing armsAt
+redrawnPast s =
+    let t = updateWireShapes benchProfile (block RedstoneWire 0 1 0 ++ shape s (block Solid 1 1 0) ++ block RedstoneWire 1 2 0) in
+    armsAt t 0 ++ armsAt t 2
 
 -- ---- ticks, under the bench profile
 
@@ -184,7 +198,7 @@ candidates =
 -- ---- the book
 
 cases : List Case
-unfolding settling line longLine ends comparing rising delayed outputs compares compare counted candidates
+unfolding settling line longLine ends comparing rising redrawnPast delayed outputs compares compare counted candidates
 cases =
     -- 1: "no rows: rounds 1; limit 0 gives 8"
     record { given = settling 128 []; wanted = 1 ∷ [] }
@@ -205,6 +219,10 @@ cases =
     -- 6: with a top slab "Rise upward, none downward. Plain Solid instead: both"
     ∷ record { given = rising 2; wanted = 2 ∷ 0 ∷ [] }
     ∷ record { given = rising 0; wanted = 2 ∷ 3 ∷ [] }
+    -- 6, redrawn: the first dust rises by Side past a top slab and by Up past a plain Solid, which no transfer tells apart, and each
+    -- lone arm gains its opposite
+    ∷ record { given = redrawnPast 2; wanted = 1 ∷ 0 ∷ 2 ∷ 0 ∷ 2 ∷ 1 ∷ 0 ∷ 2 ∷ 0 ∷ 2 ∷ [] }
+    ∷ record { given = redrawnPast 0; wanted = 1 ∷ 0 ∷ 3 ∷ 0 ∷ 2 ∷ 1 ∷ 0 ∷ 2 ∷ 0 ∷ 2 ∷ [] }
     -- 7: "delay byte 0 given is 1; 9 is 4. Delay 3, dark, input on from the first tick: output 0, 0, 1"
     ∷ record { given = delayed 0 ∷ delayed 9 ∷ []; wanted = 1 ∷ 4 ∷ [] }
     ∷ record { given = outputs; wanted = 0 ∷ 0 ∷ 1 ∷ [] }

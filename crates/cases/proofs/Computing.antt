@@ -7,7 +7,7 @@ use Rattle.network.specs.Computing.{computing as settling}
 use Rattle.blocks.specs.Profile.{says}
 use Rattle.places.specs.Signed.{signed32, signed8, clamp32, satAdd}
 use Rattle.places.specs.Places.{samePos, before, opposite, step, horizontalOffset, beside, adjacent}
-use Rattle.world.specs.Rows.{posOf, supportOf, storedArm}
+use Rattle.world.specs.Rows.{posOf, supportOf, armEntry, storedArm}
 use Rattle.world.specs.Find.{find, kindAt}
 use Rattle.world.specs.Traits.{plain, ofShape, traits, traitsAt}
 use Rattle.refusals.specs.Good.{goodProfile, goodPlace, goodRow}
@@ -15,6 +15,7 @@ use Rattle.refusals.specs.Check.{checkRows, checkTable, checkInput}
 use Rattle.connectivity.specs.Ports.{ahead, outputOf, inputOf, across, sidesOf}
 use Rattle.wire.specs.Arms.{connects, componentConnects, joins, rises, drops, inferPast, inferWireConnection, armOf, hasArm}
 use Rattle.wire.specs.Transfer.{isLevel, isRise, isFall, fits, ruleAlong, firstRule, transferOf, dustTransfer, transmits}
+use Rattle.redraw.specs.Redraw.{entryOf, entriesOf, withOpposite, drawn, redrawnRow, updateWireShapes}
 use Rattle.electrical.specs.Emitted.{goodDevice, checkDevices, switchLevel, emittedLevel, emitted}
 use Rattle.electrical.specs.Edges.{outputsTo, isHeldBy, isCharged, strongly, through, armTo, alongArm, under, touches, feeds, lights, drives, networkOf}
 use Rattle.electrical.specs.Answer.{roundsOf, settled, checkCall, checkSettle}
@@ -24,5 +25,5 @@ use Rattle.sim.specs.Tick.{repeaterInputLevel, isRequested, locksFrom, isLocked
 use Rattle.sim.specs.Calls.{checkFresh, checkStep, checkTick, switched}
 
 unfoldable pub computing : ℕ
-unfolding tabulateFrom joinedFrom same firstFrom indicesFrom settling says signed32 signed8 clamp32 satAdd samePos before opposite step horizontalOffset beside adjacent posOf supportOf storedArm find kindAt plain ofShape traits traitsAt goodProfile goodPlace goodRow checkRows checkTable checkInput ahead outputOf inputOf across sidesOf connects componentConnects joins rises drops inferPast inferWireConnection armOf hasArm isLevel isRise isFall fits ruleAlong firstRule transferOf dustTransfer transmits goodDevice checkDevices switchLevel emittedLevel emitted outputsTo isHeldBy isCharged strongly through armTo alongArm under touches feeds lights drives networkOf roundsOf settled checkCall checkSettle devicesOf delayOf bitsSet isCandidate goodQueue goodLamp goodTorch goodState checkState freshDevice freshDevices freshQueue freshLamp freshRow freshState repeaterInputLevel isRequested locksFrom isLocked nextQueue repeaterRow nextTorch nextToggles nextCandidate torchRow compared nextComparator deviceRow nextLit nextLeft lampRow settledOf setDevices setLamps tick ticks checkFresh checkStep checkTick switched
+unfolding tabulateFrom joinedFrom same firstFrom indicesFrom settling says signed32 signed8 clamp32 satAdd samePos before opposite step horizontalOffset beside adjacent posOf supportOf armEntry storedArm find kindAt plain ofShape traits traitsAt goodProfile goodPlace goodRow checkRows checkTable checkInput ahead outputOf inputOf across sidesOf connects componentConnects joins rises drops inferPast inferWireConnection armOf hasArm isLevel isRise isFall fits ruleAlong firstRule transferOf dustTransfer transmits entryOf entriesOf withOpposite drawn redrawnRow updateWireShapes goodDevice checkDevices switchLevel emittedLevel emitted outputsTo isHeldBy isCharged strongly through armTo alongArm under touches feeds lights drives networkOf roundsOf settled checkCall checkSettle devicesOf delayOf bitsSet isCandidate goodQueue goodLamp goodTorch goodState checkState freshDevice freshDevices freshQueue freshLamp freshRow freshState repeaterInputLevel isRequested locksFrom isLocked nextQueue repeaterRow nextTorch nextToggles nextCandidate torchRow compared nextComparator deviceRow nextLit nextLeft lampRow settledOf setDevices setLamps tick ticks checkFresh checkStep checkTick switched
 computing = 0

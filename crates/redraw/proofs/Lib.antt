@@ -2,4 +2,3 @@
 pub mod Rows
 pub mod Redrawn
 pub mod Accepted
-pub mod Cases
