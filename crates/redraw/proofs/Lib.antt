@@ -1,4 +1,4 @@
--- Laws of redrawn tables, and a case.
+-- Laws of redrawn tables.
 pub mod Rows
 pub mod Redrawn
 pub mod Accepted
