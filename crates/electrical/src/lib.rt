@@ -1,4 +1,4 @@
-// Settling: emitted levels, what reaches what, and the network of a table.
+// Settling: the levels that rows emit, valid device columns, and what reaches what.
 pub mod device;
 pub mod edges;
 pub mod output;

@@ -6,7 +6,6 @@ ghost use mathlib.Core.Path.{_≡_};
 ghost use mathlib.Core.Bool.{cond};
 ghost use lib.Dec.{eqb};
 ghost use Rattle.columns.specs.Signal.{maxSignal};
-ghost use Rattle.blocks.specs.Kind.{isSwitch};
 ghost use Rattle.electrical.specs.Emitted.{switchLevel, emittedLevel};
 
 // The level of a lever, button or plate: 15 where it is on and gives none.
