@@ -1,4 +1,5 @@
 pub mod Levels
 pub mod Arriving
+pub mod Seeking
 pub mod Near
 pub mod Slotted

@@ -27,6 +27,7 @@ use Rattle.wire.proofs.Around.{transmits-dust}
 use Rattle.electrical.specs.Edges.{under}
 use Rattle.gather.specs.Slots.{aroundAt, overAt, noRow, slotOf, feederAt, underAt, feeders, unders}
 use Rattle.gather.proofs.Levels.{top-same, top-less}
+use Rattle.gather.proofs.Seeking.{sought-is}
 use Rattle.gather.proofs.Near.{Among, transmits-near, under-near}
 
 -- ---- slots at the positions from which the edges to row i can come
@@ -81,14 +82,14 @@ guarded false edge (At j) h = go (ltb j noRow) (edge j) refl
 
 -- ---- the columns of slots
 
-module _ (p t : Bytes) (i : ℕ) (l : i < rows t) where
+module _ (p t : Bytes) (a : Table t) (i : ℕ) (l : i < rows t) where
   feeder-row : (k : ℕ) → k < 12 → row (feeders p t (rows t * 12)) (i * 12 + k) ≡ slotOf (λ j. transmits p t j i) (find t (aroundAt (posOf t i) k))
   unfolding feederAt
   feeder-row k h =
       let row-is : (i * 12 + k) / 12 ≡ i = omega arith in
       let slot-is : (i * 12 + k) % 12 ≡ k = omega arith in
       row-tabulate (rows t * 12) (λ m. feederAt p t (m / 12) (m % 12)) (i * 12 + k) (omega arith)
-      ∙ rw (row-is, slot-is) (guarded (isDust (kindOf t i)) _ _ (λ j e. transmits-dust p t j i e .1))
+      ∙ rw (row-is, slot-is, sought-is t a (aroundAt (posOf t i) k)) (guarded (isDust (kindOf t i)) _ _ (λ j e. transmits-dust p t j i e .1))
 
   under-row : (k : ℕ) → k < 5 → row (unders p t (rows t * 5)) (i * 5 + k) ≡ slotOf (λ j. under p t j i) (find t (overAt (posOf t i) k))
   unfolding underAt under
@@ -96,7 +97,7 @@ module _ (p t : Bytes) (i : ℕ) (l : i < rows t) where
       let row-is : (i * 5 + k) / 5 ≡ i = omega arith in
       let slot-is : (i * 5 + k) % 5 ≡ k = omega arith in
       row-tabulate (rows t * 5) (λ m. underAt p t (m / 5) (m % 5)) (i * 5 + k) (omega arith)
-      ∙ rw (row-is, slot-is)
+      ∙ rw (row-is, slot-is, sought-is t a (overAt (posOf t i) k))
       (guarded (traits p t i .weak) _ _ (λ j e. and-true (traits p t i .weak) _ (and-true (isDust (kindOf t j)) _ e .1) .0))
 
 module _ (p t : Bytes) (a : Table t) (s : Column) (sized : length s ≡ rows t) (i : ℕ) (l : i < rows t) where
@@ -109,10 +110,10 @@ module _ (p t : Bytes) (a : Table t) (s : Column) (sized : length s ≡ rows t) 
   arriving-feeders =
       arriving-slots t a (transmits p t) i 12 (aroundAt (posOf t i)) (λ j h. transmits-near p t a j i h l) (λ j. row s j - 1) (rw none-level)
       ∙ top-less 12 _
-      ∙ ap (λ x. x - 1) (top-same 12 _ _ (λ k h. ap (row s) (sym (feeder-row p t i l k h))))
+      ∙ ap (λ x. x - 1) (top-same 12 _ _ (λ k h. ap (row s) (sym (feeder-row p t a i l k h))))
 
   -- "dust reaches the block below and along its arms"
   pub arriving-unders : arriving (rows t) (under p t) (row s) i ≡ top 5 (λ k. row s (row (unders p t (rows t * 5)) (i * 5 + k)))
   arriving-unders =
       arriving-slots t a (under p t) i 5 (overAt (posOf t i)) (λ j h. under-near p t a j i h) (row s) none-level
-      ∙ top-same 5 _ _ (λ k h. ap (row s) (sym (under-row p t i l k h)))
+      ∙ top-same 5 _ _ (λ k h. ap (row s) (sym (under-row p t a i l k h)))

@@ -1,2 +1,3 @@
 pub mod Arrivals
+pub mod Seek
 pub mod Slots

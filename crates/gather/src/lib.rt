@@ -1,5 +1,6 @@
 // What settling computes once, before the rounds: emitted levels, what arrives from sources that no round changes, and the rows of dust that feed.
 pub mod arrivals;
+mod seek;
 pub mod slots;
 
 ghost use mathlib.Core.Path.{_≡_};

@@ -1,11 +1,11 @@
 // The slots of the dust that feeds: the rows found at the positions from which a dust's level can reach a row.
+use crate::seek::seek;
 use blocks::kind;
 use columns::Found;
 use electrical::edges::under;
 use places::Facing;
 use places::Pos;
 use wire::transfer::transmits;
-use world::find::find;
 use world::row::kind_of;
 use world::row::pos_of;
 use world::traits::redstone_traits;
@@ -97,7 +97,7 @@ pub fn feeder_at(profile: &[u8], table: &[u8], i: usize, k: u8) -> u16
     if kind_of(table, i) != kind::REDSTONE_WIRE {
         return NO_ROW;
     }
-    let Found::At(j) = find(table, around_at(pos_of(table, i), k)) else {
+    let Found::At(j) = seek(table, around_at(pos_of(table, i), k)) else {
         return NO_ROW;
     };
     slot_of(j, transmits(profile, table, j, i))
@@ -110,7 +110,7 @@ pub fn under_at(profile: &[u8], table: &[u8], i: usize, k: u8) -> u16
     if !redstone_traits(profile, table, i).weak {
         return NO_ROW;
     }
-    let Found::At(j) = find(table, over_at(pos_of(table, i), k)) else {
+    let Found::At(j) = seek(table, over_at(pos_of(table, i), k)) else {
         return NO_ROW;
     };
     slot_of(j, under(profile, table, j, i))

@@ -1,6 +1,6 @@
 -- Laws of a call: what its checks say, and what it answers and writes by how settling ends.
 -- Assumes nothing.
-use mathlib.Core.Path.{_≡_, refl, _∙_}
+use mathlib.Core.Path.{_≡_, refl, sym, _∙_}
 use mathlib.Core.Bool.{Bool, true, false, cond, _&&_}
 use Prim.Native.Nat.{ℕ}
 use lib.ListN.{length}
@@ -9,6 +9,7 @@ use borrow.Author.Tests.{eqb-true}
 use Rattle.columns.specs.Column.{Bytes, Column}
 use Rattle.columns.proofs.Truth.{and-true}
 use Rattle.world.specs.Rows.{rows}
+use Rattle.refusals.specs.declared.Checked.{Checked}
 use Rattle.refusals.specs.declared.Checked.the-variants.{Accepted, Refused}
 use Rattle.refusals.specs.Check.{refuseUnless, checkInput, answerOf}
 use Rattle.refusals.proofs.Passed.{passed-unless, passed-both}
@@ -32,20 +33,26 @@ module _ (p t : Bytes) (d signal weak strong : Column) where
       let (w, g) = and-true (eqb (length weak) (rows t)) _ others in
       (accepted-input p t input .1, record { signal-rows = eqb-true _ _ s; weak-rows = eqb-true _ _ w; strong-rows = eqb-true _ _ g })
 
-  module _ {limit : ℕ} where
-    -- is settled, or refused by its limit
-    pub answers-solved : {signal′ weak′ strong′ : Column} {r : Outcome} → checkCall p t d (length signal) (length weak) (length strong) ≡ Accepted
+  -- what the call checked
+  module _ {c : Checked} (checked : c ≡ checkCall p t d (length signal) (length weak) (length strong)) where
+    pub passes : c ≡ Accepted → checkCall p t d (length signal) (length weak) (length strong) ≡ Accepted
+    passes h = sym checked ∙ h
+
+    -- a call that passes is settled, or refused by its limit
+    pub answers-solved : {limit : ℕ} {signal′ weak′ strong′ : Column} {r : Outcome} → c ≡ Accepted
         → Solves (roundsOf p t d) (settled p t d) limit signal weak strong signal′ weak′ strong′ r
         → Settles p t d limit signal weak strong signal′ weak′ strong′ (answerBy r)
     unfolding checkSettle outcomeOf
-    answers-solved {r = r} h s = record { answer = rw h (go (leb (roundsOf p t d) limit) (s .answer)); columns = rw h (s .columns) }
+    answers-solved {limit} {r = r} h s =
+        record { answer = rw (passes h) (go (leb (roundsOf p t d) limit) (s .answer)); columns = rw (passes h) (s .columns) }
       where
         go : (b : Bool) → r ≡ cond b (Settled (roundsOf p t d)) Unsettled → answerBy r ≡ answerOf (refuseUnless 8 b Accepted) (roundsOf p t d)
         go true e = rw e
         go false e = rw e
 
-    -- a call that does not is refused, and writes nothing
-    pub answers-refused : {n i : ℕ} → checkCall p t d (length signal) (length weak) (length strong) ≡ Refused n i
-        → Settles p t d limit signal weak strong signal weak strong (answerOf (Refused n i) 0)
+    -- one that does not is refused, and writes nothing
+    pub answers-refused : {limit n i r : ℕ} → c ≡ Refused n i → r ≡ answerOf c 0 → Settles p t d limit signal weak strong signal weak strong r
     unfolding checkSettle
-    answers-refused h = record { answer = rw h; columns = rw h (record { signals = refl; weaks = refl; strongs = refl }) }
+    answers-refused {n = n} {i = i} h e =
+        let refused : checkCall p t d (length signal) (length weak) (length strong) ≡ Refused n i = sym checked ∙ h in
+        record { answer = e ∙ rw (h, refused); columns = rw refused (record { signals = refl; weaks = refl; strongs = refl }) }

@@ -3,6 +3,7 @@ mod prepare;
 mod round;
 mod settle;
 
+use crate::prepare::solve_in;
 use electrical::device::check_call;
 use refusals::Checked;
 use refusals::answer;
@@ -38,7 +39,9 @@ pub fn solve(
     let mut charged = [0u8; 1024];
     let mut base = [0u8; 1024];
     let mut direct = [0u8; 1024];
-    prepare::solve_over(
+    let mut feeders = [0u16; 12288];
+    let mut unders = [0u16; 5120];
+    solve_in(
         profile,
         table,
         devices,
@@ -47,6 +50,8 @@ pub fn solve(
         &mut charged[..n],
         &mut base[..n],
         &mut direct[..n],
+        &mut feeders[..n * 12],
+        &mut unders[..n * 5],
         signal,
         weak,
         strong,

@@ -78,7 +78,7 @@ fn write(
 }
 
 // Rounds over the prepared columns and lent buffers.
-pub fn settle_in(
+fn settle_in(
     profile: &[u8],
     table: &[u8],
     emitted: &[u8],
@@ -121,4 +121,51 @@ pub fn settle_in(
     );
     write(outcome, s1, w1, charged, signal, weak, strong);
     outcome
+}
+
+// Rounds over the prepared columns.
+pub fn settle(
+    profile: &[u8],
+    table: &[u8],
+    emitted: &[u8],
+    charged: &[u8],
+    base: &[u8],
+    direct: &[u8],
+    feeders: &[u16],
+    unders: &[u16],
+    empty: bool,
+    limit: u32,
+    signal: &mut [u8],
+    weak: &mut [u8],
+    strong: &mut [u8],
+) -> Outcome
+    requires { ⌜ Prepared (now profile) (now table) (now emitted) (now base) (now direct) (now feeders) (now unders) empty ⌝ }
+    requires { ⌜ now charged ≡ strongOf (networkOf (now profile) (now table)) (now emitted) ⌝ }
+    requires { ⌜ Outputs (now table) (now signal) (now weak) (now strong) ⌝ }
+    ensures { λ r. ⌜ Solves (roundsOf (networkOf (now (profile .entry)) (now (table .entry))) (now (emitted .entry))) (settled (networkOf (now (profile .entry)) (now (table .entry))) (now (emitted .entry))) limit (now (signal .entry)) (now (weak .entry)) (now (strong .entry)) (now (signal .exit)) (now (weak .exit)) (now (strong .exit)) r ⌝ }
+{
+    let n = emitted.len();
+    let mut s0 = [0u8; 1024];
+    let mut w0 = [0u8; 1024];
+    let mut s1 = [0u8; 1024];
+    let mut w1 = [0u8; 1024];
+    settle_in(
+        profile,
+        table,
+        emitted,
+        charged,
+        base,
+        direct,
+        feeders,
+        unders,
+        empty,
+        limit,
+        &mut s0[..n],
+        &mut w0[..n],
+        &mut s1[..n],
+        &mut w1[..n],
+        signal,
+        weak,
+        strong,
+    )
 }

@@ -19,8 +19,8 @@ pos-of-requires c κs = search needs
 over-at-requires : tie.Need-over-at-requires
 over-at-requires c κs = search needs
 
-find-requires : tie.Need-find-requires
-find-requires c κs = search needs
+seek-requires : tie.Need-seek-requires
+seek-requires c κs = search needs
 
 enum-known-j : tie.Need-enum-known-j
 enum-known-j c = search needs
@@ -30,7 +30,7 @@ enum-told c = search needs
 
 returns-2 : tie.Need-returns-2
 unfolding underAt slotOf
-returns-2 c = rw (← c .before .before .before .before .before .before .before .redstone-traits .ensures, not-false (c .before .before .before .before .before .before .before .redstone-traits .result .weak) (c .before .before .before .before .before .if1 .left), ← c .before .before .before .before .pos-of .ensures, ← c .before .before .before .over-at .ensures, ← c .before .before .find .ensures, c .enum-told .given .1)
+returns-2 c = rw (← c .before .before .before .before .before .before .before .redstone-traits .ensures, not-false (c .before .before .before .before .before .before .before .redstone-traits .result .weak) (c .before .before .before .before .before .if1 .left), ← c .before .before .before .before .pos-of .ensures, ← c .before .before .before .over-at .ensures, ← c .before .before .seek .ensures, c .enum-told .given .1)
 
 under-requires : tie.Need-under-requires
 under-requires c κs = search needs
@@ -40,7 +40,7 @@ slot-of-requires c κs = search needs
 
 returns-3 : tie.Need-returns-3
 unfolding underAt slotOf
-returns-3 c = rw (← c .before .before .before .before .before .before .before .before .before .before .redstone-traits .ensures, not-false (c .before .before .before .before .before .before .before .before .before .before .redstone-traits .result .weak) (c .before .before .before .before .before .before .before .before .if1 .left), ← c .before .before .before .before .before .before .before .pos-of .ensures, ← c .before .before .before .before .before .before .over-at .ensures, ← c .before .before .before .before .before .find .ensures, c .before .before .before .j .given .1, ← c .before .under .ensures) (c .slot-of .ensures)
+returns-3 c = rw (← c .before .before .before .before .before .before .before .before .before .before .redstone-traits .ensures, not-false (c .before .before .before .before .before .before .before .before .before .before .redstone-traits .result .weak) (c .before .before .before .before .before .before .before .before .if1 .left), ← c .before .before .before .before .before .before .before .pos-of .ensures, ← c .before .before .before .before .before .before .over-at .ensures, ← c .before .before .before .before .before .seek .ensures, c .before .before .before .j .given .1, ← c .before .under .ensures) (c .slot-of .ensures)
 
 pub under-at-spec : {M : Type 1} → statement M
 under-at-spec =
@@ -50,7 +50,7 @@ under-at-spec =
     returns
     pos-of-requires
     over-at-requires
-    find-requires
+    seek-requires
     enum-known-j
     enum-told
     returns-2
