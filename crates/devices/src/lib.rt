@@ -1,0 +1,1 @@
+// One row's sixteen bytes of state.
