@@ -28,6 +28,10 @@ freshQueue t i = cond (eqb (kindOf t i) Repeater) (freshDevice t i * (2 ^ delayO
 abbrev pub numbersOf : Column → Column → Column → State
 numbersOf signal weak strong = record { signal = signal; held = []; weak = weak; strong = strong }
 
+-- the power alone: neither a torch nor a lamp reads a signal
+abbrev pub powersOf : Column → Column → State
+powersOf weak strong = numbersOf [] weak strong
+
 -- the larger of weak and strong power at row i of a settled state
 abbrev pub powerAt : State → ℕ → ℕ
 powerAt s i = max (row (s .weak) i) (row (s .strong) i)

@@ -53,6 +53,10 @@ isCandidate toggles = leb 8 (bitsSet 31 toggles)
 
 -- ---- valid rows
 
+-- "the rest 0"
+abbrev pub goodRest : Bytes → Bool
+goodRest r = allBelow (λ k. eqb (getD r (9 + k) 0) 0) 7
+
 module _ (t : Bytes) (i : ℕ) (r : Bytes) where
   -- "one bit per tick of delay, bit 0 equal to byte 0"; "Bytes of another kind's device are 0"
   unfoldable pub goodQueue : Bool
@@ -75,10 +79,6 @@ module _ (t : Bytes) (i : ℕ) (r : Bytes) where
       (ltb (togglesOf r) (2 ^ 31) && (leb (candidateOf r) 1 && (eqb (candidateOf r) 1 || not (isCandidate (togglesOf r)))))
       (eqb (togglesOf r) 0 && eqb (candidateOf r) 0)
 
-  -- "the rest 0"
-  abbrev pub goodRest : Bool
-  goodRest = allBelow (λ k. eqb (getD r (9 + k) 0) 0) 7
-
   -- the sixteen bytes r of row i are within the layout
   unfoldable pub goodState : Bool
-  goodState = goodDevice (kindOf t i) (deviceOf r) && (goodQueue && (goodLamp && (goodTorch && goodRest)))
+  goodState = goodDevice (kindOf t i) (deviceOf r) && (goodQueue && (goodLamp && (goodTorch && goodRest r)))
