@@ -5,7 +5,6 @@ mod lamp;
 mod level;
 mod repeater;
 pub mod row;
-mod stub;
 mod torch;
 
 use blocks::kind;

@@ -5,6 +5,7 @@ use crate::row::two_to;
 use columns::Found;
 use columns::byte_at;
 use connectivity::Sides;
+use electrical::edges::outputs_to;
 use places::Pos;
 use world::find::find;
 use world::find::find_at;
@@ -12,6 +13,7 @@ use world::row::kind_of;
 ghost use mathlib.Core.Path.{_≡_};
 ghost use Prim.Native.Nat.{_≤_, _<_};
 ghost use lib.ListN.{length};
+ghost use Rattle.columns.specs.Column.{Bytes};
 ghost use Rattle.devices.specs.Fresh.{numbersOf};
 ghost use Rattle.devices.specs.Step.{repeaterInputLevel, isRequested, locksFrom, isLocked, nextQueue, repeaterRow};
 
@@ -50,23 +52,22 @@ fn is_requested(
 }
 
 // Whether a repeater or comparator at the position outputs into the row and is on.
-fn locks_from(profile: &[u8], table: &[u8], devices: &[u8], row: usize, q: Pos) -> bool
-    ensures { λ r. ⌜ r ≡ locksFrom (now (profile .entry)) (now (table .entry)) (now (devices .entry)) row q ⌝ }
+fn locks_from(table: &[u8], devices: &[u8], row: usize, q: Pos) -> bool
+    ensures { λ r. ⌜ ((p : Bytes) → r ≡ locksFrom p (now (table .entry)) (now (devices .entry)) row q) ⌝ }
 {
     let Found::At(j) = find(table, q) else {
         return false;
     };
-    crate::stub::outputs_to(profile, table, j, row) & (byte_at(devices, j) != 0)
+    outputs_to(table, j, row) & (byte_at(devices, j) != 0)
 }
 
-fn is_locked(profile: &[u8], table: &[u8], devices: &[u8], row: usize) -> bool
-    ensures { λ r. ⌜ r ≡ isLocked (now (profile .entry)) (now (table .entry)) (now (devices .entry)) row ⌝ }
+fn is_locked(table: &[u8], devices: &[u8], row: usize) -> bool
+    ensures { λ r. ⌜ ((p : Bytes) → r ≡ isLocked p (now (table .entry)) (now (devices .entry)) row) ⌝ }
 {
     let sides = connectivity::sides_of(table, row);
     match sides {
         Sides::Both(a, b) => {
-            locks_from(profile, table, devices, row, a)
-                | locks_from(profile, table, devices, row, b)
+            locks_from(table, devices, row, a) | locks_from(table, devices, row, b)
         }
         Sides::Neither => false,
     }
@@ -96,7 +97,7 @@ pub fn repeater_step(
     requires { ⌜ length (now sixteen) ≡ 16 ⌝ }
     ensures { λ _. ⌜ now (sixteen .exit) ≡ repeaterRow (now (profile .entry)) (now (table .entry)) (now (devices .entry)) (numbersOf (now (signal .entry)) (now (weak .entry)) (now (strong .entry))) row (now (sixteen .entry)) ⌝ }
 {
-    if is_locked(profile, table, devices, row) {
+    if is_locked(table, devices, row) {
         return;
     }
     let requested = is_requested(profile, table, signal, weak, strong, row);

@@ -1,6 +1,7 @@
 // The fields of a row's sixteen bytes, and which values are within the layout.
 use blocks::kind;
 use columns::byte_at;
+use electrical::device::good_device;
 use world::row::kind_of;
 ghost use mathlib.Core.Path.{_≡_};
 ghost use Prim.Native.Nat.{_+_, _*_, _^_, _≤_, _<_};
@@ -105,7 +106,7 @@ fn good_rest(sixteen: &[u8]) -> bool
 pub fn good_state(table: &[u8], row: usize, sixteen: &[u8]) -> bool
     ensures { λ r. ⌜ r ≡ goodState (now (table .entry)) row (now (sixteen .entry)) ⌝ }
 {
-    crate::stub::good_device(kind_of(table, row), byte_at(sixteen, 0))
+    good_device(kind_of(table, row), byte_at(sixteen, 0))
         & (good_queue(table, row, sixteen)
             & (good_lamp(table, row, sixteen)
                 & (good_torch(table, row, sixteen) & good_rest(sixteen))))

@@ -3,6 +3,7 @@ use mathlib.Core.Path.{_≡_, refl}
 use mathlib.Core.Bool.{Bool, true, false, cond, _&&_, true≢false, false≢true}
 use Prim.Native.Nat.{ℕ, _*_, _-_}
 use native.Mathlib.Omega.{arith}
+use lib.Dec.{eqb}
 use lib.Pow.{pow-pos}
 use Rattle.devices.specs.Fresh.{freshQueue, freshDevice}
 use Rattle.devices.proofs.Bits.{delay-range}
@@ -37,11 +38,11 @@ sub-result c = omega (arith, pow-pos (c .before .delay-of .result))
 
 returns : tie.Need-returns
 unfolding freshQueue freshDevice
-returns c = rw (← c .before .before .before .before .kind-of .ensures, ← c .before .before .before .is-powered .ensures, ← c .before .delay-of .ensures, ← c .two-to .ensures .0) (filled _ _ _ _ (c .before .before .if1 .taken))
+returns c = rw (← c .before .before .before .before .kind-of .ensures, ← c .before .before .before .is-powered .ensures, ← c .before .delay-of .ensures, ← c .two-to .ensures .0) (filled (eqb (c .before .before .before .before .kind-of .result) 5) (c .before .before .before .is-powered .result) _ _ (c .before .before .if1 .taken))
 
 returns-2 : tie.Need-returns-2
 unfolding freshQueue freshDevice
-returns-2 c = rw (← c .before .before .kind-of .ensures, ← c .before .is-powered .ensures) (empty _ _ _ _ (c .if1 .left))
+returns-2 c = rw (← c .before .before .kind-of .ensures, ← c .before .is-powered .ensures) (empty (eqb (c .before .before .kind-of .result) 5) (c .before .is-powered .result) _ _ (c .if1 .left))
 
 pub fresh-queue-spec : {M : Type 1} → statement M
 fresh-queue-spec =
