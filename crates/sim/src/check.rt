@@ -8,6 +8,7 @@ ghost use mathlib.Core.Path.{_≡_};
 ghost use Prim.Native.Nat.{_*_, _≤_};
 ghost use lib.ListN.{length};
 ghost use Rattle.columns.specs.First.{firstFrom};
+ghost use Rattle.world.specs.Rows.{rows};
 ghost use Rattle.sim.specs.State.{isBadState, checkState};
 ghost use Rattle.sim.specs.Calls.{checkFresh, checkStep, checkTick};
 
@@ -31,7 +32,7 @@ fn first_bad_state(table: &[u8], state: &[u8], rows: usize) -> Found
 
 // Refusal 6, of a table that is not crowded: the row at fault fits its number.
 fn check_state(table: &[u8], state: &[u8]) -> Checked
-    requires { ⌜ length (now table) ≤ 32768 ⌝ }
+    requires { ⌜ rows (now table) ≤ 1024 ⌝ }
     ensures { λ r. ⌜ r ≡ checkState (now (table .entry)) (now (state .entry)) ⌝ }
 {
     let rows = rows(table);

@@ -1,62 +1,67 @@
+-- `sim::check::first_bad_state` meets its contract. The loop's invariant: the answer is that of the search from row i on. Assumes nothing.
+use mathlib.Core.Path.{_≡_, sym, ap, _∙_}
+use mathlib.Core.Bool.{true, false, not}
+use Prim.Native.Nat.{_*_, _-_, _≤_}
+use native.Mathlib.Nat.{sub-zero}
+use native.Mathlib.Omega.{arith}
+use lib.ListN.{length}
+use Rattle.columns.specs.First.{firstFrom}
+use Rattle.columns.proofs.First.{scan-hit, scan-miss, scan-over}
+use Rattle.sim.specs.State.{isBadState}
+use Rattle.sim.proofs.Turns.{lent-part}
+use borrow.Author.Needs.{needs}
 use Rattle.sim.proofs.check.first_bad_state.Statement.{statement}
 use Rattle.sim.proofs.check.first_bad_state.Tie as tie
-use Rattle.sim.proofs.check.first_bad_state.Reads as reads
-use Rattle.sim.proofs.check.first_bad_state.Lts as lts
-use Rattle.devices.proofs.row.good_state.Reads as good-state-reads
 
 abbrev Inv-loop : tie.InvT-loop
-Inv-loop table state rows i₀ i = ?
+Inv-loop table state rows i₀ i = (i ≤ rows) × (length state ≡ rows * 16) × (firstFrom (isBadState table state) rows 0 ≡ firstFrom (isBadState table state) (rows - i) i)
 
 abbrev μ-loop : tie.MeasureT-loop
-μ-loop table state rows i₀ i = ?
+μ-loop table state rows i₀ i = rows - i
 
--- src/check.rt:20:5
 loop-holds : tie.Need-loop-holds Inv-loop μ-loop
-loop-holds c = ?
+loop-holds c = (omega arith, c .before .before .pre, rw sub-zero)
 
--- src/check.rt:21:21
 mul-start : tie.Need-mul-start Inv-loop μ-loop
-mul-start c = ?
+mul-start c = omega arith
 
--- src/check.rt:22:19
 add-end : tie.Need-add-end Inv-loop μ-loop
-add-end c = ?
+add-end c = omega arith
 
--- src/check.rt:23:33
 sub-good-state : tie.Need-sub-good-state Inv-loop μ-loop
-sub-good-state c = ?
+sub-good-state c = omega arith
 
--- src/check.rt:23:33
 part-good-state-start : tie.Need-part-good-state-start Inv-loop μ-loop
-part-good-state-start c = ?
+part-good-state-start c = omega arith
 
--- src/check.rt:23:33
 part-good-state-end : tie.Need-part-good-state-end Inv-loop μ-loop
-part-good-state-end c = ?
+part-good-state-end c = omega arith
 
--- src/check.rt:23:12
 good-state-requires : tie.Need-good-state-requires Inv-loop μ-loop
-good-state-requires c κs = ?
+good-state-requires c κs = search needs
 
--- src/check.rt:24:13
 add-i : tie.Need-add-i Inv-loop μ-loop
-add-i c = ?
+add-i c = omega arith
 
--- src/check.rt:20:5
 loop-less : tie.Need-loop-less Inv-loop μ-loop
-loop-less c = ?
+loop-less c = omega arith
 
--- src/check.rt:20:5
 loop-again : tie.Need-loop-again Inv-loop μ-loop
-loop-again c = ?
+loop-again c =
+    let l = c .before .before .before .before in
+    let a = c .before .before .before .before .before .before .before .args in
+    let e : isBadState (a .table .now) (a .state .now) (l .loop .i) ≡ false = ap not (sym (rw (lent-part (a .state .now) (l .loop .i)) at (c .before .good-state .ensures)) ∙ c .if1 .taken) in
+    (omega arith, l .loop .inv .1, l .loop .inv .2 ∙ scan-miss _ _ _ (omega arith) e)
 
--- src/check.rt:26:13
 returns : tie.Need-returns Inv-loop μ-loop
-returns c = ?
+returns c =
+    let l = c .before .before .before .before in
+    let a = c .before .before .before .before .before .before .before .args in
+    let e : isBadState (a .table .now) (a .state .now) (l .loop .i) ≡ true = ap not (sym (rw (lent-part (a .state .now) (l .loop .i)) at (c .before .good-state .ensures)) ∙ c .if1 .left) in
+    sym (l .loop .inv .2 ∙ scan-hit _ _ _ (omega arith) e)
 
--- src/check.rt:15:1
 returns-2 : tie.Need-returns-2 Inv-loop μ-loop
-returns-2 c = ?
+returns-2 c = sym (c .before .loop .inv .2 ∙ scan-over _ _ _ (omega arith))
 
 pub first-bad-state-spec : {M : Type 1} → statement M
 first-bad-state-spec =

@@ -1,67 +1,61 @@
+-- `sim::state::fill_fresh` meets its contract. The loop's invariant: the rows passed are fresh. Assumes nothing.
+use mathlib.Core.Path.{_≡_, sym, ap, _∙_}
+use Prim.Native.Nat.{_*_, _-_}
+use native.Mathlib.Omega.{arith}
+use Rattle.world.specs.Rows.{rows}
+use Rattle.devices.specs.Fresh.{powersOf, freshRow}
+use Rattle.sim.proofs.Turns.{Turns, turns-none, turns-room, turns-more, turns-all}
+use borrow.Author.Needs.{needs}
 use Rattle.sim.proofs.state.fill_fresh.Statement.{statement}
 use Rattle.sim.proofs.state.fill_fresh.Tie as tie
-use Rattle.sim.proofs.state.fill_fresh.Reads as reads
-use Rattle.sim.proofs.state.fill_fresh.Lts as lts
-use Rattle.devices.proofs.fresh.fresh_step.Reads as fresh-step-reads
-use Rattle.world.proofs.row.rows.Reads as rows-reads
 
 abbrev Inv-loop : tie.InvT-loop
-Inv-loop table weak strong state₀ n i₀ state i = ?
+Inv-loop table weak strong state₀ n i₀ state i = (n ≡ rows table) × Turns (freshRow table (powersOf weak strong)) state₀ n i state
 
 abbrev μ-loop : tie.MeasureT-loop
-μ-loop table weak strong state₀ n i₀ state i = ?
+μ-loop table weak strong state₀ n i₀ state i = n - i
 
--- src/state.rt:95:9
 rows-requires : tie.Need-rows-requires Inv-loop μ-loop
-rows-requires c κs = ?
+rows-requires c κs = search needs
 
--- src/state.rt:97:5
 loop-holds : tie.Need-loop-holds Inv-loop μ-loop
-loop-holds c = ?
+loop-holds c = (c .rows .ensures, turns-none (c .before .before .before .before .before .pre ∙ ap (λ k. k * 16) (sym (c .rows .ensures))))
 
--- src/state.rt:98:21
 mul-start : tie.Need-mul-start Inv-loop μ-loop
-mul-start c = ?
+mul-start c = omega arith
 
--- src/state.rt:99:19
 add-end : tie.Need-add-end Inv-loop μ-loop
-add-end c = ?
+add-end c = omega arith
 
--- src/state.rt:100:44
 sub-fresh-step : tie.Need-sub-fresh-step Inv-loop μ-loop
-sub-fresh-step c = ?
+sub-fresh-step c = omega arith
 
--- src/state.rt:100:44
 part-fresh-step-start : tie.Need-part-fresh-step-start Inv-loop μ-loop
-part-fresh-step-start c = ?
+part-fresh-step-start c = omega arith
 
--- src/state.rt:100:44
 part-fresh-step-end : tie.Need-part-fresh-step-end Inv-loop μ-loop
-part-fresh-step-end c = ?
+part-fresh-step-end c = omega arith
 
--- src/state.rt:100:9
 fresh-step-requires : tie.Need-fresh-step-requires Inv-loop μ-loop
-fresh-step-requires c κs = ?
+fresh-step-requires c κs = turns-room (c .before .before .loop .inv .1) (omega arith)
 
--- src/state.rt:101:9
 add-i : tie.Need-add-i Inv-loop μ-loop
-add-i c = ?
+add-i c = omega arith
 
--- src/state.rt:97:5
 loop-less : tie.Need-loop-less Inv-loop μ-loop
-loop-less c = ?
+loop-less c = omega arith
 
--- src/state.rt:97:5
 loop-again : tie.Need-loop-again Inv-loop μ-loop
-loop-again c = ?
+loop-again c =
+    let l = c .before .before .before .before .before in
+    let step = c .before .before .fresh-step in
+    (l .loop .inv .0, turns-more (l .loop .inv .1) (omega arith) (step .ensures) (step .kept .1 .1 .1 .1 .0))
 
--- src/state.rt:91:1
 same-length : tie.Need-same-length Inv-loop μ-loop
-same-length c = ?
+same-length c = omega arith
 
--- src/state.rt:91:1
 returns : tie.Need-returns Inv-loop μ-loop
-returns c = ?
+returns c = let l = c .before in rw (← l .loop .inv .0) (turns-all (l .loop .inv .1) (omega arith))
 
 pub fill-fresh-spec : {M : Type 1} → statement M
 fill-fresh-spec =

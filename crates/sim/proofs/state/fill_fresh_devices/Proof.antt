@@ -1,51 +1,50 @@
+-- `sim::state::fill_fresh_devices` meets its contract. The loop's invariant: the bytes of the rows passed are there. Assumes nothing.
+use mathlib.Core.Path.{_≡_, sym, _∙_}
+use Prim.Native.Nat.{_-_, _≤_}
+use native.Mathlib.Omega.{arith}
+use Rattle.columns.proofs.Columns.{Filled, filled-none, filled-more, filled-all}
+use Rattle.world.specs.Rows.{rows}
+use Rattle.devices.specs.Fresh.{freshDevice}
+use Rattle.sim.specs.State.{freshDevices}
+use borrow.Author.Needs.{needs}
 use Rattle.sim.proofs.state.fill_fresh_devices.Statement.{statement}
 use Rattle.sim.proofs.state.fill_fresh_devices.Tie as tie
-use Rattle.sim.proofs.state.fill_fresh_devices.Reads as reads
-use Rattle.sim.proofs.state.fill_fresh_devices.Lts as lts
-use Rattle.devices.proofs.fresh.fresh_device.Reads as fresh-device-reads
-use Rattle.world.proofs.row.rows.Reads as rows-reads
 
 abbrev Inv-loop : tie.InvT-loop
-Inv-loop table devices₀ n i₀ devices i = ?
+Inv-loop table devices₀ n i₀ devices i = (n ≡ rows table) × (i ≤ n) × Filled (freshDevice table) n i devices
 
 abbrev μ-loop : tie.MeasureT-loop
-μ-loop table devices₀ n i₀ devices i = ?
+μ-loop table devices₀ n i₀ devices i = n - i
 
--- src/state.rt:35:9
 rows-requires : tie.Need-rows-requires Inv-loop μ-loop
-rows-requires c κs = ?
+rows-requires c κs = search needs
 
--- src/state.rt:37:5
 loop-holds : tie.Need-loop-holds Inv-loop μ-loop
-loop-holds c = ?
+loop-holds c = (c .rows .ensures, omega arith, filled-none (c .before .before .before .pre ∙ sym (c .rows .ensures)))
 
--- src/state.rt:38:22
 fresh-device-requires : tie.Need-fresh-device-requires Inv-loop μ-loop
-fresh-device-requires c κs = ?
+fresh-device-requires c κs = search needs
 
--- src/state.rt:38:9
 slice-write-devices : tie.Need-slice-write-devices Inv-loop μ-loop
-slice-write-devices c = ?
+slice-write-devices c = omega arith
 
--- src/state.rt:39:9
 add-i : tie.Need-add-i Inv-loop μ-loop
-add-i c = ?
+add-i c = omega arith
 
--- src/state.rt:37:5
 loop-less : tie.Need-loop-less Inv-loop μ-loop
-loop-less c = ?
+loop-less c = omega arith
 
--- src/state.rt:37:5
 loop-again : tie.Need-loop-again Inv-loop μ-loop
-loop-again c = ?
+loop-again c =
+    let l = c .before .before in
+    (l .loop .inv .0, omega arith, filled-more (l .loop .inv .2) (omega arith) (c .fresh-device .ensures))
 
--- src/state.rt:31:1
 same-length : tie.Need-same-length Inv-loop μ-loop
-same-length c = ?
+same-length c = omega arith
 
--- src/state.rt:31:1
 returns : tie.Need-returns Inv-loop μ-loop
-returns c = ?
+unfolding freshDevices
+returns c = let l = c .before in rw (← l .loop .inv .0) (filled-all (l .loop .inv .2) (omega arith))
 
 pub fill-fresh-devices-spec : {M : Type 1} → statement M
 fill-fresh-devices-spec =

@@ -1,67 +1,71 @@
+-- `sim::state::set_devices` meets its contract. The loop's invariant: the devices of the rows passed are set. Assumes nothing.
+use mathlib.Core.Path.{_≡_, sym, ap, _∙_}
+use Prim.Native.Nat.{ℕ, _*_, _-_}
+use native.Mathlib.Omega.{arith}
+use Rattle.columns.specs.Column.{Bytes, Column}
+use Rattle.world.specs.Rows.{rows}
+use Rattle.devices.specs.Fresh.{numbersOf}
+use Rattle.devices.specs.Step.{deviceRow}
+use Rattle.sim.specs.State.{sixteen}
+use Rattle.sim.specs.Tick.{withDevices}
+use Rattle.sim.proofs.Turns.{Turns, turns-none, turns-lent, turns-room, turns-more, turns-all}
+use borrow.Author.Needs.{needs}
 use Rattle.sim.proofs.state.set_devices.Statement.{statement}
 use Rattle.sim.proofs.state.set_devices.Tie as tie
-use Rattle.sim.proofs.state.set_devices.Reads as reads
-use Rattle.sim.proofs.state.set_devices.Lts as lts
-use Rattle.devices.proofs.device_step.Reads as device-step-reads
-use Rattle.world.proofs.row.rows.Reads as rows-reads
+
+-- what row i becomes
+abbrev becomes : Bytes → Bytes → Column → Column → Column → Column → Bytes → ℕ → Bytes
+becomes p t d signal weak strong st i = deviceRow p t d (numbersOf signal weak strong) i (sixteen st i)
 
 abbrev Inv-loop : tie.InvT-loop
-Inv-loop profile table devices signal weak strong state₀ n i₀ state i = ?
+Inv-loop profile table devices signal weak strong state₀ n i₀ state i = (n ≡ rows table) × Turns (becomes profile table devices signal weak strong state₀) state₀ n i state
 
 abbrev μ-loop : tie.MeasureT-loop
-μ-loop profile table devices signal weak strong state₀ n i₀ state i = ?
+μ-loop profile table devices signal weak strong state₀ n i₀ state i = n - i
 
--- src/state.rt:56:9
 rows-requires : tie.Need-rows-requires Inv-loop μ-loop
-rows-requires c κs = ?
+rows-requires c κs = search needs
 
--- src/state.rt:58:5
 loop-holds : tie.Need-loop-holds Inv-loop μ-loop
-loop-holds c = ?
+loop-holds c = (c .rows .ensures, turns-none (c .before .before .before .before .before .before .before .before .pre ∙ ap (λ k. k * 16) (sym (c .rows .ensures))))
 
--- src/state.rt:59:21
 mul-start : tie.Need-mul-start Inv-loop μ-loop
-mul-start c = ?
+mul-start c = omega arith
 
--- src/state.rt:60:19
 add-end : tie.Need-add-end Inv-loop μ-loop
-add-end c = ?
+add-end c = omega arith
 
--- src/state.rt:69:13
 sub-device-step : tie.Need-sub-device-step Inv-loop μ-loop
-sub-device-step c = ?
+sub-device-step c = omega arith
 
--- src/state.rt:69:13
 part-device-step-start : tie.Need-part-device-step-start Inv-loop μ-loop
-part-device-step-start c = ?
+part-device-step-start c = omega arith
 
--- src/state.rt:69:13
 part-device-step-end : tie.Need-part-device-step-end Inv-loop μ-loop
-part-device-step-end c = ?
+part-device-step-end c = omega arith
 
--- src/state.rt:61:9
 device-step-requires : tie.Need-device-step-requires Inv-loop μ-loop
-device-step-requires c κs = ?
+device-step-requires c κs = turns-room (c .before .before .loop .inv .1) (omega arith)
 
--- src/state.rt:71:9
 add-i : tie.Need-add-i Inv-loop μ-loop
-add-i c = ?
+add-i c = omega arith
 
--- src/state.rt:58:5
 loop-less : tie.Need-loop-less Inv-loop μ-loop
-loop-less c = ?
+loop-less c = omega arith
 
--- src/state.rt:58:5
 loop-again : tie.Need-loop-again Inv-loop μ-loop
-loop-again c = ?
+loop-again c =
+    let l = c .before .before .before .before .before in
+    let h = l .loop .inv .1 in
+    let step = c .before .before .device-step in
+    (l .loop .inv .0, turns-more h (omega arith) (rw (turns-lent h (omega arith)) at (step .ensures)) (step .kept .1 .1 .1 .1 .1 .1 .1 .0))
 
--- src/state.rt:44:1
 same-length : tie.Need-same-length Inv-loop μ-loop
-same-length c = ?
+same-length c = omega arith
 
--- src/state.rt:44:1
 returns : tie.Need-returns Inv-loop μ-loop
-returns c = ?
+unfolding withDevices
+returns c = let l = c .before in rw (← l .loop .inv .0) (turns-all (l .loop .inv .1) (omega arith))
 
 pub set-devices-spec : {M : Type 1} → statement M
 set-devices-spec =

@@ -1,67 +1,71 @@
+-- `sim::state::set_lamps` meets its contract. The loop's invariant: the lamps of the rows passed are set. Assumes nothing.
+use mathlib.Core.Path.{_≡_, sym, ap, _∙_}
+use Prim.Native.Nat.{ℕ, _*_, _-_}
+use native.Mathlib.Omega.{arith}
+use Rattle.columns.specs.Column.{Bytes, Column}
+use Rattle.world.specs.Rows.{rows}
+use Rattle.devices.specs.Fresh.{powersOf}
+use Rattle.devices.specs.Step.{lampRow}
+use Rattle.sim.specs.State.{sixteen}
+use Rattle.sim.specs.Tick.{withLamps}
+use Rattle.sim.proofs.Turns.{Turns, turns-none, turns-lent, turns-room, turns-more, turns-all}
+use borrow.Author.Needs.{needs}
 use Rattle.sim.proofs.state.set_lamps.Statement.{statement}
 use Rattle.sim.proofs.state.set_lamps.Tie as tie
-use Rattle.sim.proofs.state.set_lamps.Reads as reads
-use Rattle.sim.proofs.state.set_lamps.Lts as lts
-use Rattle.devices.proofs.lamp_step.Reads as lamp-step-reads
-use Rattle.world.proofs.row.rows.Reads as rows-reads
+
+-- what row i becomes
+abbrev becomes : Bytes → Column → Column → Bytes → ℕ → Bytes
+becomes t weak strong st i = lampRow t (powersOf weak strong) i (sixteen st i)
 
 abbrev Inv-loop : tie.InvT-loop
-Inv-loop table weak strong state₀ n i₀ state i = ?
+Inv-loop table weak strong state₀ n i₀ state i = (n ≡ rows table) × Turns (becomes table weak strong state₀) state₀ n i state
 
 abbrev μ-loop : tie.MeasureT-loop
-μ-loop table weak strong state₀ n i₀ state i = ?
+μ-loop table weak strong state₀ n i₀ state i = n - i
 
--- src/state.rt:80:9
 rows-requires : tie.Need-rows-requires Inv-loop μ-loop
-rows-requires c κs = ?
+rows-requires c κs = search needs
 
--- src/state.rt:82:5
 loop-holds : tie.Need-loop-holds Inv-loop μ-loop
-loop-holds c = ?
+loop-holds c = (c .rows .ensures, turns-none (c .before .before .before .before .before .pre ∙ ap (λ k. k * 16) (sym (c .rows .ensures))))
 
--- src/state.rt:83:21
 mul-start : tie.Need-mul-start Inv-loop μ-loop
-mul-start c = ?
+mul-start c = omega arith
 
--- src/state.rt:84:19
 add-end : tie.Need-add-end Inv-loop μ-loop
-add-end c = ?
+add-end c = omega arith
 
--- src/state.rt:85:43
 sub-lamp-step : tie.Need-sub-lamp-step Inv-loop μ-loop
-sub-lamp-step c = ?
+sub-lamp-step c = omega arith
 
--- src/state.rt:85:43
 part-lamp-step-start : tie.Need-part-lamp-step-start Inv-loop μ-loop
-part-lamp-step-start c = ?
+part-lamp-step-start c = omega arith
 
--- src/state.rt:85:43
 part-lamp-step-end : tie.Need-part-lamp-step-end Inv-loop μ-loop
-part-lamp-step-end c = ?
+part-lamp-step-end c = omega arith
 
--- src/state.rt:85:9
 lamp-step-requires : tie.Need-lamp-step-requires Inv-loop μ-loop
-lamp-step-requires c κs = ?
+lamp-step-requires c κs = turns-room (c .before .before .loop .inv .1) (omega arith)
 
--- src/state.rt:86:9
 add-i : tie.Need-add-i Inv-loop μ-loop
-add-i c = ?
+add-i c = omega arith
 
--- src/state.rt:82:5
 loop-less : tie.Need-loop-less Inv-loop μ-loop
-loop-less c = ?
+loop-less c = omega arith
 
--- src/state.rt:82:5
 loop-again : tie.Need-loop-again Inv-loop μ-loop
-loop-again c = ?
+loop-again c =
+    let l = c .before .before .before .before .before in
+    let h = l .loop .inv .1 in
+    let step = c .before .before .lamp-step in
+    (l .loop .inv .0, turns-more h (omega arith) (rw (turns-lent h (omega arith)) at (step .ensures)) (step .kept .1 .1 .1 .1 .0))
 
--- src/state.rt:76:1
 same-length : tie.Need-same-length Inv-loop μ-loop
-same-length c = ?
+same-length c = omega arith
 
--- src/state.rt:76:1
 returns : tie.Need-returns Inv-loop μ-loop
-returns c = ?
+unfolding withLamps
+returns c = let l = c .before in rw (← l .loop .inv .0) (turns-all (l .loop .inv .1) (omega arith))
 
 pub set-lamps-spec : {M : Type 1} → statement M
 set-lamps-spec =
