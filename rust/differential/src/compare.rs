@@ -1,0 +1,213 @@
+//! One side's answers held against the other's.
+
+use std::collections::BTreeMap;
+use std::fmt::{self, Debug, Display, Formatter};
+use std::io::Write;
+
+use crate::generate::Case;
+use crate::refusals::REFUSED;
+use crate::table::ROW_BYTES;
+
+/// What a function returns, and the buffers lent to it as they come back.
+#[derive(Clone, Debug, Eq, PartialEq)]
+pub struct Answer {
+    pub number: i128,
+    pub buffers: Vec<Lent<u16>>,
+}
+
+impl<N: Into<i128>> From<N> for Answer {
+    fn from(number: N) -> Self {
+        Self::with_buffers(number, [])
+    }
+}
+
+impl Answer {
+    pub fn with_buffers<const N: usize>(number: impl Into<i128>, buffers: [Lent<u16>; N]) -> Self {
+        Self { number: number.into(), buffers: buffers.into() }
+    }
+
+    /// The refusal's number, of a function that refuses.
+    pub fn refusal(&self) -> Option<i128> {
+        let number = self.number / i128::from(REFUSED);
+        (number > 0).then_some(number)
+    }
+}
+
+/// A buffer to lend, between guards that show a write outside of it.
+#[derive(Clone, Debug, Eq, PartialEq)]
+pub struct Lent<T> {
+    entries: Vec<T>,
+}
+
+const GUARDS: usize = 3;
+
+impl<T: Copy + Into<u16>> Lent<T> {
+    pub fn new(guard: T, entries: &[T]) -> Self {
+        Self { entries: [&[guard; GUARDS], entries, &[guard; GUARDS]].concat() }
+    }
+
+    pub fn entries(&mut self) -> &mut [T] {
+        let end = self.entries.len() - GUARDS;
+        &mut self.entries[GUARDS..end]
+    }
+
+    pub fn first_guard_after(&mut self) -> &mut T {
+        let end = self.entries.len() - GUARDS;
+        &mut self.entries[end]
+    }
+
+    pub fn returned(self) -> Lent<u16> {
+        Lent { entries: self.entries.into_iter().map(Into::into).collect() }
+    }
+}
+
+/// A call of a ported function, with everything that it takes beside the case's profile and table.
+pub trait Query: Debug {
+    fn function(&self) -> &'static str;
+}
+
+/// A side of the comparison, made for one case.
+pub trait Answers<Q> {
+    fn answer(&self, query: &Q) -> Answer;
+}
+
+/// A wrong answer of one function, which a comparison must report.
+pub struct Alteration<Q> {
+    pub function: &'static str,
+    pub what: &'static str,
+    pub alter: fn(&Case, &Q, &mut Answer),
+}
+
+/// A side with an alteration.
+pub struct Altered<'a, Q, A> {
+    pub side: A,
+    pub case: &'a Case,
+    pub alteration: &'a Alteration<Q>,
+}
+
+impl<Q: Query, A: Answers<Q>> Answers<Q> for Altered<'_, Q, A> {
+    fn answer(&self, query: &Q) -> Answer {
+        let mut answer = self.side.answer(query);
+        if query.function() == self.alteration.function {
+            (self.alteration.alter)(self.case, query, &mut answer);
+        }
+        answer
+    }
+}
+
+/// How much was compared.
+#[derive(Default)]
+pub struct Tally {
+    pub tables: BTreeMap<&'static str, u64>,
+    pub comparisons: BTreeMap<&'static str, u64>,
+}
+
+impl Tally {
+    /// Prints past the test harness, which holds back what a passing test prints.
+    pub fn print(&self, title: &str) {
+        write!(std::io::stdout(), "\n{title}: {self}").expect("standard output can be written");
+    }
+}
+
+impl Display for Tally {
+    fn fmt(&self, f: &mut Formatter<'_>) -> fmt::Result {
+        for (what, counts) in [("tables", &self.tables), ("comparisons", &self.comparisons)] {
+            writeln!(f, "{} {what}", counts.values().sum::<u64>())?;
+            for (name, count) in counts {
+                writeln!(f, "  {count:>10} {name}")?;
+            }
+        }
+        Ok(())
+    }
+}
+
+/// Two answers that differ.
+#[derive(Debug)]
+pub struct Mismatch {
+    pub function: &'static str,
+    pub query: String,
+    pub expected: Answer,
+    pub actual: Answer,
+}
+
+/// All answers agreed, or the first two that did not.
+pub type Compared = Result<(), Box<Mismatch>>;
+
+/// A mismatch on a case, and on the smallest table found by leaving rows out, if any could be.
+#[derive(Debug)]
+pub struct Report {
+    pub case: Case,
+    pub mismatch: Box<Mismatch>,
+    pub smallest: Option<(Case, Box<Mismatch>)>,
+}
+
+impl Display for Mismatch {
+    fn fmt(&self, f: &mut Formatter<'_>) -> fmt::Result {
+        writeln!(f, "{} of {}", self.function, self.query)?;
+        writeln!(f, "expected {:?}", self.expected)?;
+        writeln!(f, "actual   {:?}", self.actual)
+    }
+}
+
+impl Display for Report {
+    fn fmt(&self, f: &mut Formatter<'_>) -> fmt::Result {
+        write!(f, "{}{}", self.case, self.mismatch)?;
+        match &self.smallest {
+            Some((case, mismatch)) => write!(f, "on fewer rows: {case}{mismatch}"),
+            None => Ok(()),
+        }
+    }
+}
+
+/// Puts each query to both sides.
+pub fn compare<Q: Query>(
+    queries: impl IntoIterator<Item = Q>,
+    expected: &impl Answers<Q>,
+    actual: &dyn Answers<Q>,
+    tally: &mut Tally,
+) -> Compared {
+    for query in queries {
+        let function = query.function();
+        *tally.comparisons.entry(function).or_default() += 1;
+        let (expected, actual) = (expected.answer(&query), actual.answer(&query));
+        if expected != actual {
+            return Err(Box::new(Mismatch { function, query: format!("{query:?}"), expected, actual }));
+        }
+    }
+    Ok(())
+}
+
+/// Compares case after case, up to the first mismatch.
+pub fn run(
+    cases: impl IntoIterator<Item = Case>,
+    compare_case: impl Fn(&Case, &mut Tally) -> Compared,
+) -> Result<Tally, Box<Report>> {
+    let mut tally = Tally::default();
+    for case in cases {
+        *tally.tables.entry(case.sort).or_default() += 1;
+        if let Err(mismatch) = compare_case(&case, &mut tally) {
+            let smallest = smallest(&case, |case| compare_case(case, &mut Tally::default()).err());
+            return Err(Box::new(Report { case, mismatch, smallest }));
+        }
+    }
+    Ok(tally)
+}
+
+/// Leaves out rows, many at once and then fewer, where a mismatch stays.
+fn smallest(case: &Case, mismatch: impl Fn(&Case) -> Option<Box<Mismatch>>) -> Option<(Case, Box<Mismatch>)> {
+    let (mut smallest, mut found) = (case.clone(), None);
+    let mut part = case.table.len().div_ceil(ROW_BYTES).next_power_of_two() * ROW_BYTES;
+    while part >= ROW_BYTES {
+        let mut at = 0;
+        while at < smallest.table.len() {
+            let mut fewer = smallest.clone();
+            fewer.table.drain(at..smallest.table.len().min(at + part));
+            match mismatch(&fewer) {
+                Some(other) => (smallest, found) = (fewer, Some(other)),
+                None => at += part,
+            }
+        }
+        part /= 2;
+    }
+    found.map(|mismatch| (smallest, mismatch))
+}

@@ -1,0 +1,155 @@
+//! Damaged copies of accepted cases. What a copy is refused for, if at all, is for document 01 to say.
+
+use crate::generate::Case;
+use crate::random::Random;
+use crate::table::{self, FARTHEST, MOST_ROWS, ROW_BYTES, Row, kind};
+
+type Damage = (&'static str, fn(&mut Random, &mut Case));
+
+/// The sorts of damage, each with its share.
+const DAMAGES: [(usize, Damage); 14] = [
+    (10, ("field byte", field_byte)),
+    (10, ("value not given", value_not_given)),
+    (10, ("given byte", given_byte)),
+    (10, ("coordinate at or past the end", coordinate)),
+    (10, ("table cut short", cut_short)),
+    (10, ("table made longer", made_longer)),
+    (10, ("rows swapped", rows_swapped)),
+    (10, ("position twice", position_twice)),
+    (10, ("row left out", row_left_out)),
+    (1, ("rows at the most or above", many_rows)),
+    (10, ("profile length", profile_length)),
+    (10, ("profile of Air", profile_of_air)),
+    (10, ("profile byte", profile_byte)),
+    (10, ("any byte", any_byte)),
+];
+
+/// A copy with one damage, or now and then two, of which the first that document 01 tests for counts.
+pub fn damaged(good: &Case, random: &mut Random) -> Case {
+    let mut case = good.clone();
+    if random.percent(25) {
+        let (_, damage) = random.weighted(&DAMAGES);
+        damage(random, &mut case);
+    }
+    let (sort, damage) = random.weighted(&DAMAGES);
+    damage(random, &mut case);
+    case.sort = sort;
+    case
+}
+
+/// The first byte of a row, if there is one.
+fn any_row(random: &mut Random, case: &Case) -> Option<usize> {
+    let rows = case.table.len() / ROW_BYTES;
+    (rows > 0).then(|| ROW_BYTES * random.below(rows))
+}
+
+/// Writes to a byte of a row whose place in the row is one of these.
+fn set_byte(random: &mut Random, case: &mut Case, places: &[usize], values: &[u8]) {
+    let (place, value) = (random.pick(places), random.pick(values));
+    if let Some(row) = any_row(random, case) {
+        case.table[row + place] = value;
+    }
+}
+
+fn field_byte(random: &mut Random, case: &mut Case) {
+    let places: Vec<usize> = (12..ROW_BYTES).collect();
+    let any = random.byte();
+    set_byte(random, case, &places, &[0, 1, 2, 3, 4, 6, 7, 12, 13, 128, 254, 255, any]);
+}
+
+/// The byte that says "given" is 0 over a value that is not.
+fn value_not_given(random: &mut Random, case: &mut Case) {
+    let (given, last) = random.pick(&[
+        (15, 16),
+        (17, 18),
+        (19, 20),
+        (19, 21),
+        (19, 22),
+        (23, 24),
+        (23, 25),
+        (23, 26),
+        (23, 27),
+    ]);
+    if let Some(row) = any_row(random, case) {
+        case.table[row + given] = 0;
+        case.table[row + last] = random.pick(&[0, 1, 1, 255]);
+    }
+}
+
+fn given_byte(random: &mut Random, case: &mut Case) {
+    let any = random.byte();
+    set_byte(random, case, &[15, 17, 19, 23], &[0, 1, 2, 255, any]);
+}
+
+fn coordinate(random: &mut Random, case: &mut Case) {
+    let any = random.bits() as i32;
+    let value = random.pick(&[FARTHEST, -FARTHEST, FARTHEST + 1, -FARTHEST - 1, i32::MIN, i32::MAX, any]);
+    let at = random.pick(&[0, 4, 8]);
+    if let Some(row) = any_row(random, case) {
+        case.table[row + at..row + at + 4].copy_from_slice(&value.to_le_bytes());
+    }
+}
+
+fn cut_short(random: &mut Random, case: &mut Case) {
+    let left = random.below(case.table.len() + 1);
+    let left = random.pick(&[left, case.table.len().saturating_sub(1)]);
+    case.table.truncate(left);
+}
+
+fn made_longer(random: &mut Random, case: &mut Case) {
+    let more = random.pick(&[1, 16, 31, 32, 33]);
+    let value = random.pick(&[0, 1, 255]);
+    case.table.resize(case.table.len() + more, value);
+}
+
+fn rows_swapped(random: &mut Random, case: &mut Case) {
+    if let (Some(one), Some(other)) = (any_row(random, case), any_row(random, case)) {
+        for at in 0..ROW_BYTES {
+            case.table.swap(one + at, other + at);
+        }
+    }
+}
+
+fn position_twice(random: &mut Random, case: &mut Case) {
+    if let (Some(one), Some(other)) = (any_row(random, case), any_row(random, case)) {
+        case.table.copy_within(one..one + 12, other);
+    }
+}
+
+fn row_left_out(random: &mut Random, case: &mut Case) {
+    if let Some(row) = any_row(random, case) {
+        case.table.drain(row..row + ROW_BYTES);
+    }
+}
+
+fn many_rows(random: &mut Random, case: &mut Case) {
+    let rows = random.pick(&[MOST_ROWS - 1, MOST_ROWS, MOST_ROWS + 1, 2 * MOST_ROWS]);
+    let row = |x: usize| Row::new([x as i32, 0, 0], kind::SOLID);
+    case.table = table::encode(&(0..rows).map(row).collect::<Vec<_>>());
+}
+
+fn profile_length(random: &mut Random, case: &mut Case) {
+    let length = random.pick(&[0, 1, 12, 13, 14, 26]);
+    case.profile.resize(length, 0);
+}
+
+fn profile_of_air(random: &mut Random, case: &mut Case) {
+    if let Some(air) = case.profile.first_mut() {
+        *air = random.pick(&[1, 31, 32, 255]);
+    }
+}
+
+fn profile_byte(random: &mut Random, case: &mut Case) {
+    if !case.profile.is_empty() {
+        let at = random.below(case.profile.len());
+        let any = random.byte();
+        case.profile[at] = random.pick(&[31, 32, 63, 255, any]);
+    }
+}
+
+fn any_byte(random: &mut Random, case: &mut Case) {
+    if !case.table.is_empty() {
+        let at = random.below(case.table.len());
+        case.table[at] = random.byte();
+    }
+}

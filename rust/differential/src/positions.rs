@@ -1,0 +1,17 @@
+//! Positions to ask about.
+
+use crate::random::Random;
+use crate::table::{Position, Row, moved};
+
+/// The positions of at most `most` rows, taken at random, and beside each a position at most two cells away.
+pub fn around(random: &mut Random, rows: &[Row], most: usize) -> Vec<Position> {
+    let mut positions: Vec<_> = rows.iter().map(|row| row.position).collect();
+    random.keep(&mut positions, most);
+    let both = |at| [at, beside(random, at)];
+    positions.into_iter().flat_map(both).collect()
+}
+
+pub fn beside(random: &mut Random, at: Position) -> Position {
+    let step = [(); 3].map(|()| random.within(-2, 2));
+    moved(at, step)
+}

@@ -1,0 +1,85 @@
+//! Wrong answers that the comparison must report.
+
+use super::{CHANGED, Call, Input, SIGNAL, STRONG, WEAK};
+use crate::compare::Alteration;
+use crate::refusals::STATE_BYTES;
+use crate::table::ROW_BYTES;
+
+pub const ALTERATIONS: [Alteration<Call>; 8] = [
+    Alteration {
+        function: "fresh",
+        what: "no lamp is lit",
+        alter: |_, _, answer| {
+            if answer.refusal().is_none() {
+                let rows = answer.buffers[CHANGED].entries().chunks_mut(STATE_BYTES);
+                rows.for_each(|row| row[2] = 0);
+            }
+        },
+    },
+    Alteration {
+        function: "settle",
+        what: "a round more is counted from the fifth on",
+        alter: |_, _, answer| {
+            if (5..17).contains(&answer.number) {
+                answer.number += 1;
+            }
+        },
+    },
+    Alteration {
+        function: "settle",
+        what: "a limit too low is answered with a number of rounds",
+        alter: |_, _, answer| {
+            if answer.refusal() == Some(8) {
+                answer.number = 17;
+            }
+        },
+    },
+    Alteration {
+        function: "settle",
+        what: "weak power ends at 14",
+        alter: |_, _, answer| {
+            if answer.refusal().is_none() {
+                let weak = answer.buffers[WEAK].entries().iter_mut();
+                weak.for_each(|power| *power = (*power).min(14));
+            }
+        },
+    },
+    Alteration {
+        function: "settle",
+        what: "a refused call clears a column",
+        alter: |_, _, answer| {
+            if answer.refusal().is_some() {
+                answer.buffers[STRONG].entries().fill(0);
+            }
+        },
+    },
+    Alteration {
+        function: "tick",
+        what: "the state stays as it was",
+        alter: |_, call, answer| {
+            if let Input::Tick { state, .. } = &call.input {
+                let entries = answer.buffers[CHANGED].entries().iter_mut();
+                entries.zip(state).for_each(|(entry, byte)| *entry = (*byte).into());
+            }
+        },
+    },
+    Alteration {
+        function: "switch",
+        what: "byte 14 stays as it was",
+        alter: |case, _, answer| {
+            let entries = answer.buffers[CHANGED].entries().iter_mut();
+            let bytes = entries.zip(&case.table).skip(14).step_by(ROW_BYTES);
+            bytes.for_each(|(entry, byte)| *entry = (*byte).into());
+        },
+    },
+    Alteration {
+        function: "switch",
+        what: "signals end at 15",
+        alter: |_, _, answer| {
+            if answer.refusal().is_none() {
+                let signals = answer.buffers[SIGNAL].entries().iter_mut();
+                signals.for_each(|signal| *signal = (*signal).min(15));
+            }
+        },
+    },
+];

@@ -1,0 +1,185 @@
+//! The calls that both sides are asked to answer for a case.
+
+use original::electrical::DeviceOutputState;
+use original::sim::RedstoneTickSimulator;
+
+use super::{Call, Input, SETTLES, pack};
+use crate::generate::Case;
+use crate::oracle::{Oracle, pos};
+use crate::random::Random;
+use crate::refusals::STATE_BYTES;
+use crate::table::{Position, ROW_BYTES, Row, kind};
+
+/// From this many rows on a table is asked for less.
+const LARGE: usize = 100;
+
+pub fn queries(case: &Case, oracle: &Oracle) -> Vec<Call> {
+    let mut random = Random::new(case.seed);
+    let rows = case.table.len() / ROW_BYTES;
+    let inputs = match oracle.refusal {
+        Ok(()) => accepted_inputs(&mut random, oracle),
+        Err(_) => refused_inputs(rows),
+    };
+    let fresh = Input::Fresh { state_bytes: STATE_BYTES * rows };
+    let call = |input| damaged_sometimes(&mut random, Call { input, columns: [rows; 3] });
+    inputs.into_iter().chain([fresh]).map(call).collect()
+}
+
+/// Each call, with a device column and a state that have only their length right.
+fn refused_inputs(rows: usize) -> Vec<Input> {
+    let state = vec![0; STATE_BYTES * rows];
+    vec![
+        Input::Settle { devices: vec![0; rows], limit: 128 },
+        Input::Tick { state: state.clone(), tick: 0, ticks: 1 },
+        Input::Switch { state, at: [0; 3], powered: 1 },
+    ]
+}
+
+fn accepted_inputs(random: &mut Random, oracle: &Oracle) -> Vec<Input> {
+    let mut inputs = settles(random, oracle);
+    let states = [reached_state(random, oracle), any_state(random, &oracle.rows)];
+    for state in states {
+        inputs.push(tick(random, state.clone()));
+        inputs.push(switch(random, oracle, state));
+    }
+    if oracle.rows.len() >= LARGE {
+        random.keep(&mut inputs, 3);
+    }
+    inputs
+}
+
+/// Settling at the limit of the simulator, about the rounds needed, and now and then at every small limit.
+fn settles(random: &mut Random, oracle: &Oracle) -> Vec<Input> {
+    let mut inputs = Vec::new();
+    for devices in [fresh_devices(oracle), any_devices(random, &oracle.rows)] {
+        let rounds = oracle.settle(&devices, 128).expect(SETTLES).iterations as u32;
+        let few = random.below(21) as u32;
+        let mut limits = vec![128, u32::MAX, rounds, rounds - 1, few];
+        if random.percent(4) && oracle.rows.len() < LARGE {
+            limits.extend(0..=20);
+        } else {
+            random.keep(&mut limits, 2);
+        }
+        let settle = |limit| Input::Settle { devices: devices.clone(), limit };
+        inputs.extend(limits.into_iter().map(settle));
+    }
+    inputs
+}
+
+/// The device column of the fresh state.
+fn fresh_devices(oracle: &Oracle) -> Vec<u8> {
+    let outputs = DeviceOutputState::initially_lit(oracle.world());
+    let device = |row: &Row| {
+        let at = pos(row.position);
+        match row.kind {
+            kind::REPEATER => outputs.repeater_powered[&at].into(),
+            kind::TORCH => outputs.torch_lit[&at].into(),
+            kind::COMPARATOR => outputs.comparator_output[&at],
+            _ => 0,
+        }
+    };
+    oracle.rows.iter().map(device).collect()
+}
+
+fn any_devices(random: &mut Random, rows: &[Row]) -> Vec<u8> {
+    rows.iter().map(|row| any_device(random, row.kind)).collect()
+}
+
+fn any_device(random: &mut Random, kind: u8) -> u8 {
+    match kind {
+        kind::REPEATER | kind::TORCH => random.byte_below(2),
+        kind::COMPARATOR => random.byte(),
+        _ => 0,
+    }
+}
+
+/// A state that a run comes to while switches are thrown: at its end they may stand otherwise than in the table.
+fn reached_state(random: &mut Random, oracle: &Oracle) -> Vec<u8> {
+    let mut simulator = RedstoneTickSimulator::new(oracle.world().clone()).expect(SETTLES);
+    let ticks = if oracle.rows.len() >= LARGE { 1 } else { random.pick(&[0, 1, 2, 4, 8, 35]) };
+    for _ in 0..ticks {
+        if random.percent(30) {
+            let at = any_position(random, oracle);
+            simulator.set_powered(pos(at), random.percent(50)).expect(SETTLES);
+        }
+        simulator.advance_tick().expect(SETTLES);
+    }
+    pack(&oracle.rows, &simulator.parts())
+}
+
+/// Any state that document 01 allows, whether a run comes to it or not.
+fn any_state(random: &mut Random, rows: &[Row]) -> Vec<u8> {
+    rows.iter().flat_map(|row| any_row_state(random, row)).collect()
+}
+
+fn any_row_state(random: &mut Random, row: &Row) -> [u8; STATE_BYTES] {
+    let mut state = [0; STATE_BYTES];
+    state[0] = any_device(random, row.kind);
+    match row.kind {
+        kind::REPEATER => {
+            let delay = row.delay.unwrap_or(1).clamp(1, 4);
+            state[1] = random.byte_below(1 << delay) & !1 | state[0];
+        }
+        kind::TORCH => {
+            let toggles = (random.bits() & random.bits()) as u32 >> 1;
+            state[4..8].copy_from_slice(&toggles.to_le_bytes());
+            state[8] = (toggles.count_ones() >= 8 || random.percent(20)).into();
+        }
+        kind::LAMP => {
+            state[2] = random.byte_below(2);
+            state[3] = random.byte_below(3) * state[2];
+        }
+        _ => {}
+    }
+    state
+}
+
+fn tick(random: &mut Random, state: Vec<u8>) -> Input {
+    let ticks = random.pick(&[0, 1, 1, 1, 2, 3, 7]);
+    let tick = random.pick(&[0, 1, 1000, u32::MAX - ticks, u32::MAX - ticks + ticks.min(1)]);
+    Input::Tick { state, tick, ticks }
+}
+
+fn switch(random: &mut Random, oracle: &Oracle, state: Vec<u8>) -> Input {
+    Input::Switch { state, at: any_position(random, oracle), powered: random.pick(&[0, 0, 1, 2, u32::MAX]) }
+}
+
+/// A row's position, or now and then any.
+fn any_position(random: &mut Random, oracle: &Oracle) -> Position {
+    if oracle.rows.is_empty() || random.percent(15) {
+        [(); 3].map(|()| random.pick(&[0, 1, i32::MIN, i32::MAX]))
+    } else {
+        oracle.rows[random.below(oracle.rows.len())].position
+    }
+}
+
+/// Most calls as they are; of the others a length or a byte is changed.
+fn damaged_sometimes(random: &mut Random, mut call: Call) -> Call {
+    if random.percent(8) {
+        let column = random.below(3);
+        call.columns[column] = other_length(random, call.columns[column]);
+    }
+    if random.percent(12) {
+        match &mut call.input {
+            Input::Fresh { state_bytes } => *state_bytes = other_length(random, *state_bytes),
+            Input::Settle { devices: bytes, .. }
+            | Input::Tick { state: bytes, .. }
+            | Input::Switch { state: bytes, .. } => damage_bytes(random, bytes),
+        }
+    }
+    call
+}
+
+fn other_length(random: &mut Random, length: usize) -> usize {
+    random.pick(&[0, length + 1, length.saturating_sub(1), length + 16, 2 * length])
+}
+
+fn damage_bytes(random: &mut Random, bytes: &mut Vec<u8>) {
+    if bytes.is_empty() || random.percent(30) {
+        bytes.resize(other_length(random, bytes.len()), 0);
+    } else {
+        let at = random.below(bytes.len());
+        let any = random.byte();
+        bytes[at] = random.pick(&[0, 1, 2, 3, 16, 128, 255, any]);
+    }
+}

@@ -1,0 +1,91 @@
+//! What the tests of all areas share.
+
+use std::collections::BTreeSet;
+use std::env;
+
+use crate::compare::{Alteration, Altered, Answers, Compared, Query, Report, Tally, run};
+use crate::damage::damaged;
+use crate::generate::{self, Case};
+use crate::probe::Probe;
+use crate::random::Random;
+
+/// The accepted tables of this many seeds or of DIFF_TABLES, from 0 or DIFF_SEED on.
+pub fn good_cases(tables: u64) -> impl Iterator<Item = Case> {
+    let first = setting("DIFF_SEED", 0);
+    (first..first + setting("DIFF_TABLES", tables)).map(generate::case)
+}
+
+fn setting(name: &str, otherwise: u64) -> u64 {
+    let Ok(value) = env::var(name) else {
+        return otherwise;
+    };
+    value.parse().unwrap_or_else(|_| panic!("{name} is to be a whole number, and is {value:?}"))
+}
+
+/// Each of these cases followed by a damaged copy.
+pub fn with_damaged(cases: impl Iterator<Item = Case>) -> impl Iterator<Item = Case> {
+    cases.flat_map(|case| {
+        let damaged = damaged(&case, &mut Random::new(!case.seed));
+        [case, damaged]
+    })
+}
+
+/// An area's comparison of one case: what is expected against the given side.
+pub type CompareCase<Q> = fn(&Case, &dyn Answers<Q>, &mut Tally) -> Compared;
+
+/// Holds the proved functions of an area to what is expected, and prints how much was compared.
+pub fn assert_agrees<Q>(title: &str, cases: impl Iterator<Item = Case>, compare_case: CompareCase<Q>)
+where
+    for<'a> Probe<'a>: Answers<Q>,
+{
+    match compare_probe(cases, compare_case) {
+        Ok(tally) => tally.print(title),
+        Err(report) => panic!("{title}: {report}"),
+    }
+}
+
+fn compare_probe<Q>(
+    cases: impl Iterator<Item = Case>,
+    compare_case: CompareCase<Q>,
+) -> Result<Tally, Box<Report>>
+where
+    for<'a> Probe<'a>: Answers<Q>,
+{
+    run(cases, |case, tally| compare_case(case, &Probe(case), tally))
+}
+
+/// Tables on which an alteration must show, and tables on which each function of an area must be compared.
+const ALTERED_TABLES: u64 = 5_000;
+const COVERING_TABLES: u64 = 50;
+
+/// Asserts that each alteration is reported, and that there is one for each function of the area.
+pub fn assert_alterations_reported<Q: Query>(alterations: &[Alteration<Q>], compare_case: CompareCase<Q>)
+where
+    for<'a> Probe<'a>: Answers<Q>,
+{
+    let cases = |tables| with_damaged((0..tables).map(generate::case));
+    for alteration in alterations {
+        let altered = |case: &Case, tally: &mut Tally| {
+            let side = Probe(case);
+            compare_case(case, &Altered { side, case, alteration }, tally)
+        };
+        let Alteration { function, what, .. } = alteration;
+        match run(cases(ALTERED_TABLES), altered) {
+            Ok(_) => panic!("{function}: it was not reported that {what}"),
+            Err(report) => assert_eq!(report.mismatch.function, *function, "{report}"),
+        }
+    }
+    let compared = compare_probe(cases(COVERING_TABLES), compare_case);
+    let compared = compared.unwrap_or_else(|report| panic!("{report}")).comparisons;
+    let altered: BTreeSet<_> = alterations.iter().map(|one| one.function).collect();
+    assert!(compared.keys().eq(&altered), "compared {compared:?}, altered {altered:?}");
+}
+
+/// Stands in for an area's tests where there is nothing to compare with.
+#[cfg(no_original)]
+pub fn say_original_not_found(area: &str) {
+    use std::io::Write;
+    let text = "the original was not found (rust/original/build.rs says where it is looked for), \
+                so nothing was compared with it: only the recorded answers are replayed.";
+    writeln!(std::io::stdout(), "\n{area}: {text}").expect("standard output can be written");
+}
