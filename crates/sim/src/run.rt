@@ -35,15 +35,7 @@ fn settle(
     ensures rounds { λ r. ⌜ r ≡ roundsOf (now (profile .entry)) (now (table .entry)) (now (devices .entry)) ⌝ }
     ensures columns { λ r. ⌜ Stands (now (profile .entry)) (now (table .entry)) (now (devices .entry)) (now (signal .exit)) (now (weak .exit)) (now (strong .exit)) ⌝ }
 {
-    let outcome = solver::solve(
-        profile,
-        table,
-        devices,
-        Rounds::MAX,
-        signal,
-        weak,
-        strong,
-    );
+    let outcome = solver::solve(profile, table, devices, Rounds::MAX, signal, weak, strong);
     match outcome {
         Outcome::Settled { rounds } => rounds,
         Outcome::Unsettled => 0,

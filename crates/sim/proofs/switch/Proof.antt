@@ -1,11 +1,11 @@
--- `sim::switch` meets its contract, by what the checks answer. Assumes nothing.
-use mathlib.Core.Path.{_≡_, ap, sym, _∙_}
+-- `sim::switch` meets its contract, by what the checks answer; a coordinate that is handed on is read back from its bits. Assumes nothing.
+use mathlib.Core.Path.{_≡_, sym, _∙_}
 use lib.ListN.{length}
 use Rattle.refusals.specs.declared.Checked.the-variants.{Accepted}
 use Rattle.places.specs.Places.{cell}
+use Rattle.places.proofs.Signs.{back32}
 use Rattle.solver.proofs.Lending.{length-zeros}
-use Rattle.sim.specs.State.{IsValidState}
-use Rattle.sim.specs.Calls.{checkStep, switched}
+use Rattle.sim.specs.Calls.{checkStep}
 use Rattle.sim.proofs.Passing.{Turned, passed-step, few, device-room, switch-ready, switch-outputs, switch-rounds, switch-stands}
 use Rattle.sim.proofs.Answers.{switch-done, switch-refused}
 use borrow.Author.Needs.{needs}
@@ -47,7 +47,8 @@ module _ (c : tie.After-set-powered) where
   turned : Turned (start .args .profile .now) (start .args .table .now) (c .set-powered .last .0) (start .args .state .now) (cell (start .args .x) (start .args .y) (start .args .z)) (start .args .powered) (start .args .signal .now) (start .args .weak .now) (start .args .strong .now)
   turned =
       record {
-        is = c .set-powered .ensures ∙ ap (λ q. switched (start .args .table .now) q (start .args .powered)) (c .before .new .ensures);
+        is =
+            rw (c .before .new .ensures, back32 _ (start .fits .x), back32 _ (start .fits .y), back32 _ (start .fits .z)) at (c .set-powered .ensures);
         passed = passed-step _ _ _ _ _ _ none;
       }
 
