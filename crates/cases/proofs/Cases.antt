@@ -18,8 +18,8 @@ use Rattle.wire.specs.declared.transfer.DustTransfer.the-variants.{Horizontal, 
 use Rattle.wire.specs.Transfer.{dustTransfer}
 use Rattle.redraw.specs.Redraw.{updateWireShapes}
 use Rattle.electrical.specs.Answer.{roundsOf, settled, checkSettle}
-use Rattle.sim.specs.State.{sixteen, deviceOf, togglesOf, candidateOf, delayOf, bitsSet}
-use Rattle.sim.specs.Fresh.{freshDevices, freshState}
+use Rattle.devices.specs.Row.{deviceOf, togglesOf, candidateOf, delayOf, bitsSet}
+use Rattle.sim.specs.State.{sixteen, freshDevices, freshState}
 use Rattle.sim.specs.Tick.{tick, ticks}
 use Rattle.sim.specs.Calls.{switched}
 use Rattle.cases.proofs.Computing.{computing}

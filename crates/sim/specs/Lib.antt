@@ -1,4 +1,4 @@
 pub mod State
-pub mod Fresh
 pub mod Tick
+pub mod Running
 pub mod Calls
