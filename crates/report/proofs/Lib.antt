@@ -1,0 +1,3 @@
+-- Laws of the text and of its writing.
+pub mod Digits
+pub mod Putting

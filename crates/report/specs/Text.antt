@@ -1,0 +1,108 @@
+-- The text that the program `settle` writes, as a function of the whole of its input.
+-- Assumes nothing.
+use mathlib.Core.Bool.{cond}
+use mathlib.Core.List.{[], _∷_, _++_}
+use Prim.Native.Nat.{ℕ, zero, suc, _+_, _/_, _%_}
+use Prim.Native.Char.{code}
+use Prim.Native.String.{String, [] as none, _∷_ as _then_}
+use lib.ListN.{length, take, drop}
+use lib.Dec.{leb, ltb}
+use lib.IntN.{ℤ, pos, negsuc}
+use Rattle.columns.specs.Column.{Bytes, row, joined}
+use Rattle.network.specs.Network.{State}
+use Rattle.places.specs.declared.Pos.{Pos}
+use Rattle.world.specs.Rows.{rows, posOf}
+use Rattle.refusals.specs.declared.Checked.{Checked}
+use Rattle.refusals.specs.declared.Checked.the-variants.{Accepted, Refused}
+use Rattle.refusals.specs.Check.{refuseUnless}
+use Rattle.electrical.specs.Answer.{roundsOf, settled, checkSettle}
+use Rattle.sim.specs.Fresh.{freshDevices}
+
+-- the bytes of a text in ASCII
+abbrev pub ascii : String → Bytes
+ascii none = []
+ascii (c then s) = code c ∷ ascii s
+
+-- ---- numbers
+
+-- the character of a digit
+abbrev pub digit : ℕ → ℕ
+digit d = 48 + d
+
+-- n with the fewest decimal digits, of which there are at most one more than `more`
+unfoldable pub decimalWithin : ℕ → ℕ → Bytes
+decimalWithin zero n = digit n ∷ []
+decimalWithin (suc more) n =
+    let front = decimalWithin more (n / 10) in
+    cond (ltb n 10) (digit n ∷ []) (front ++ digit (n % 10) ∷ [])
+
+-- n in decimal: no number has more digits than one more than itself
+unfoldable pub decimalOf : ℕ → Bytes
+decimalOf n = decimalWithin n n
+
+-- a signed number in decimal
+unfoldable pub signedText : ℤ → Bytes
+signedText (pos n) = decimalOf n
+signedText (negsuc n) = ascii "-" ++ decimalOf (suc n)
+
+-- ---- lines: "one to a line"
+
+-- `blocks=`, `rounds=`, `refusal=` or `place=`, and the number
+unfoldable pub lineOf : Bytes → ℕ → Bytes
+lineOf name n = name ++ decimalOf n ++ ascii "\n"
+
+-- "per row `row=` with x, y, z, signal, weak, strong"
+unfoldable pub rowText : Pos → ℕ → ℕ → ℕ → Bytes
+rowText q signal weak strong =
+    ascii "row=" ++ signedText (q .x) ++ ascii "," ++ signedText (q .y) ++ ascii "," ++ signedText (q .z) ++ ascii ","
+    ++ decimalOf signal ++ ascii "," ++ decimalOf weak ++ ascii "," ++ decimalOf strong ++ ascii "\n"
+
+-- the line of row i of the table t, whose settled numbers are s
+abbrev pub rowOf : Bytes → State → ℕ → Bytes
+rowOf t s i = rowText (posOf t i) (row (s .signal) i) (row (s .weak) i) (row (s .strong) i)
+
+-- "It writes `blocks=`, `rounds=`, then per row .."
+unfoldable pub settledText : Bytes → ℕ → State → Bytes
+settledText t rounds s = lineOf (ascii "blocks=") (rows t) ++ lineOf (ascii "rounds=") rounds ++ joined (rows t) (rowOf t s)
+
+-- "or `refusal=` number and `place=` row"
+unfoldable pub refusalText : ℕ → ℕ → Bytes
+refusalText n i = lineOf (ascii "refusal=") n ++ lineOf (ascii "place=") i
+
+-- the refusal's text, or that of a call that is not refused
+abbrev pub textOf : Checked → Bytes → Bytes
+textOf Accepted done = done
+textOf (Refused n i) done = refusalText n i
+
+-- ---- the whole input
+
+-- "reads the profile and then the table"
+abbrev pub profileOf : Bytes → Bytes
+profileOf input = take 13 input
+
+abbrev pub tableOf : Bytes → Bytes
+tableOf input = drop 13 input
+
+-- "takes the fresh devices and limit 128"; the columns have one entry per row
+unfoldable pub checkRun : Bytes → Bytes → Checked
+checkRun p t = checkSettle p t (freshDevices t) 128 (rows t) (rows t) (rows t)
+
+-- "More than 32,781 bytes is number 3 before all else"
+unfoldable pub checkWhole : Bytes → Checked
+checkWhole input = refuseUnless 3 (leb (length input) 32781) (checkRun (profileOf input) (tableOf input))
+
+unfoldable pub runText : Bytes → Bytes → Bytes
+runText p t = let d = freshDevices t in settledText t (roundsOf p t d) (settled p t d)
+
+unfoldable pub settleText : Bytes → Bytes
+settleText input = textOf (checkWhole input) (runText (profileOf input) (tableOf input))
+
+-- ---- the room for it
+
+-- no text is longer
+abbrev pub room : ℕ
+room = 65536
+
+-- what is written to a buffer: the text, or nothing where the buffer is shorter than the room
+unfoldable pub reported : Bytes → Bytes → Bytes
+reported input out = cond (leb room (length out)) (settleText input) []
