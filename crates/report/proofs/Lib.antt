@@ -1,3 +1,4 @@
 -- Laws of the text and of its writing.
 pub mod Digits
 pub mod Putting
+pub mod Signs
