@@ -8,7 +8,7 @@ use Prim.Native.String.{String, [] as none, _∷_ as _then_}
 use lib.ListN.{length, take, drop}
 use lib.Dec.{leb, ltb}
 use lib.IntN.{ℤ, pos, negsuc}
-use Rattle.columns.specs.Column.{Bytes, row, joined}
+use Rattle.columns.specs.Column.{Bytes, Column, row, joined}
 use Rattle.network.specs.Network.{State}
 use Rattle.places.specs.declared.Pos.{Pos}
 use Rattle.world.specs.Rows.{rows, posOf}
@@ -51,19 +51,26 @@ signedText (negsuc n) = ascii "-" ++ decimalOf (suc n)
 unfoldable pub lineOf : Bytes → ℕ → Bytes
 lineOf name n = name ++ decimalOf n ++ ascii "\n"
 
--- "per row `row=` with x, y, z, signal, weak, strong"
-unfoldable pub rowText : Pos → ℕ → ℕ → ℕ → Bytes
-rowText q signal weak strong =
+-- "per row `row=` with x, y, z, signal, weak, strong": up to the position, and from there on
+abbrev pub placeText : Pos → Bytes
+placeText q =
     ascii "row=" ++ signedText (q .x) ++ ascii "," ++ signedText (q .y) ++ ascii "," ++ signedText (q .z) ++ ascii ","
-    ++ decimalOf signal ++ ascii "," ++ decimalOf weak ++ ascii "," ++ decimalOf strong ++ ascii "\n"
 
--- the line of row i of the table t, whose settled numbers are s
-abbrev pub rowOf : Bytes → State → ℕ → Bytes
-rowOf t s i = rowText (posOf t i) (row (s .signal) i) (row (s .weak) i) (row (s .strong) i)
+abbrev pub levelsText : ℕ → ℕ → ℕ → Bytes
+levelsText signal weak strong =
+    decimalOf signal ++ ascii "," ++ decimalOf weak ++ ascii "," ++ decimalOf strong ++ ascii "\n"
+
+unfoldable pub rowText : Pos → ℕ → ℕ → ℕ → Bytes
+rowText q signal weak strong = placeText q ++ levelsText signal weak strong
+
+-- the line of row i of the table t with its three columns
+abbrev pub rowOf : Bytes → Column → Column → Column → ℕ → Bytes
+rowOf t signal weak strong i = rowText (posOf t i) (row signal i) (row weak i) (row strong i)
 
 -- "It writes `blocks=`, `rounds=`, then per row .."
 unfoldable pub settledText : Bytes → ℕ → State → Bytes
-settledText t rounds s = lineOf (ascii "blocks=") (rows t) ++ lineOf (ascii "rounds=") rounds ++ joined (rows t) (rowOf t s)
+settledText t rounds s =
+    lineOf (ascii "blocks=") (rows t) ++ lineOf (ascii "rounds=") rounds ++ joined (rows t) (rowOf t (s .signal) (s .weak) (s .strong))
 
 -- "or `refusal=` number and `place=` row"
 unfoldable pub refusalText : ℕ → ℕ → Bytes

@@ -1,2 +1,3 @@
 // The text that the program `settle` writes, as a function of the whole of its input.
+mod lines;
 mod put;
