@@ -61,9 +61,9 @@ within-is zero n k h f = within-short zero n k (omega arith) f
 within-is (suc more) n k h f =
     by-cases (decLt n 10) (λ l. within-short (suc more) n k l f)
     (λ m.
-        let l : 10 ≤ n = omega arith in
-        let (j, is, tenth) = more-digits n k l f in
-        rw (long more n l, is, last-digit n, within-is more (n / 10) j (omega arith) tenth))
+    let l : 10 ≤ n = omega arith in
+    let (j, is, tenth) = more-digits n k l f in
+    rw (long more n l, is, last-digit n, within-is more (n / 10) j (omega arith) tenth))
 
 pub decimal-is : (n k : ℕ) → Fewest 10 1 n k → decimalOf n ≡ digits 10 k n
 unfolding decimalOf

@@ -1,15 +1,15 @@
 -- The text that the program `settle` writes, as a function of the whole of its input.
 -- Assumes nothing.
+use mathlib.Core.Path.{_≡_}
 use mathlib.Core.Bool.{cond}
 use mathlib.Core.List.{[], _∷_, _++_}
-use Prim.Native.Nat.{ℕ, zero, suc, _+_, _/_, _%_}
+use Prim.Native.Nat.{ℕ, zero, suc, _+_, _/_, _%_, _≤_}
 use Prim.Native.Char.{code}
 use Prim.Native.String.{String, [] as none, _∷_ as _then_}
 use lib.ListN.{length, take, drop}
 use lib.Dec.{leb, ltb}
 use lib.IntN.{ℤ, pos, negsuc}
-use Rattle.columns.specs.Column.{Bytes, Column, row, joined}
-use Rattle.network.specs.Network.{State}
+use Rattle.columns.specs.Column.{Bytes, Column, row, joined, atFront}
 use Rattle.places.specs.declared.Pos.{Pos}
 use Rattle.world.specs.Rows.{rows, posOf}
 use Rattle.refusals.specs.declared.Checked.{Checked}
@@ -68,9 +68,9 @@ abbrev pub rowOf : Bytes → Column → Column → Column → ℕ → Bytes
 rowOf t signal weak strong i = rowText (posOf t i) (row signal i) (row weak i) (row strong i)
 
 -- "It writes `blocks=`, `rounds=`, then per row .."
-unfoldable pub settledText : Bytes → ℕ → State → Bytes
-settledText t rounds s =
-    lineOf (ascii "blocks=") (rows t) ++ lineOf (ascii "rounds=") rounds ++ joined (rows t) (rowOf t (s .signal) (s .weak) (s .strong))
+unfoldable pub settledText : Bytes → ℕ → Column → Column → Column → Bytes
+settledText t rounds signal weak strong =
+    lineOf (ascii "blocks=") (rows t) ++ lineOf (ascii "rounds=") rounds ++ joined (rows t) (rowOf t signal weak strong)
 
 -- "or `refusal=` number and `place=` row"
 unfoldable pub refusalText : ℕ → ℕ → Bytes
@@ -99,17 +99,26 @@ unfoldable pub checkWhole : Bytes → Checked
 checkWhole input = refuseUnless 3 (leb (length input) 32781) (checkRun (profileOf input) (tableOf input))
 
 unfoldable pub runText : Bytes → Bytes → Bytes
-runText p t = let d = freshDevices t in settledText t (roundsOf p t d) (settled p t d)
+runText p t =
+    let d = freshDevices t in
+    let s = settled p t d in
+    settledText t (roundsOf p t d) (s .signal) (s .weak) (s .strong)
 
 unfoldable pub settleText : Bytes → Bytes
 settleText input = textOf (checkWhole input) (runText (profileOf input) (tableOf input))
 
--- ---- the room for it
+-- ---- a call that writes it
 
--- no text is longer
+-- the room that every text has enough of
 abbrev pub room : ℕ
 room = 65536
 
--- what is written to a buffer: the text, or nothing where the buffer is shorter than the room
+-- what is put into a buffer: the text, or nothing where the buffer is shorter than the room
 unfoldable pub reported : Bytes → Bytes → Bytes
 reported input out = cond (leb room (length out)) (settleText input) []
+
+-- The whole of a call: how many bytes it puts, and every byte of the buffer.
+pub record Reports (input out out′ : Bytes) (r : ℕ) : Type 0 where
+  pub answer : r ≡ length (reported input out)
+  pub text : out′ ≡ atFront (reported input out) out
+  pub within : r ≤ length out′

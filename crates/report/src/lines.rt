@@ -9,7 +9,7 @@ ghost use Rattle.columns.specs.Column.{joined};
 ghost use Rattle.columns.specs.Column.{row as Column·row};
 ghost use Rattle.world.specs.Rows.{posOf};
 ghost use Rattle.world.specs.Rows.{rows as Rows·rows};
-ghost use Rattle.report.specs.Text.{placeText, levelsText, rowOf, refusalText, room};
+ghost use Rattle.report.specs.Text.{placeText, levelsText, rowOf, settledText, refusalText, room};
 ghost use Rattle.report.specs.Put.{Puts};
 
 // A row's line up to its position.
@@ -60,7 +60,7 @@ fn line_of(
 }
 
 // The lines of every row, in order.
-pub fn rows(out: &mut [u8], at: usize, table: &[u8], signal: &[u8], weak: &[u8], strong: &[u8]) -> usize
+fn rows(out: &mut [u8], at: usize, table: &[u8], signal: &[u8], weak: &[u8], strong: &[u8]) -> usize
     requires { ⌜ (at ≤ 64) × (Rows·rows (now table) ≤ 1024) × (room ≤ length (now out)) ⌝ }
     ensures { λ r. ⌜ Puts (joined (Rows·rows (now (table .entry))) (rowOf (now (table .entry)) (now (signal .entry)) (now (weak .entry)) (now (strong .entry)))) at (now (out .entry)) (now (out .exit)) r ⌝ }
 {
@@ -72,6 +72,23 @@ pub fn rows(out: &mut [u8], at: usize, table: &[u8], signal: &[u8], weak: &[u8],
         i += 1;
     }
     end
+}
+
+// What a table settles to: its rows, its rounds, and the lines of the rows.
+pub fn settled(
+    out: &mut [u8],
+    table: &[u8],
+    rounds: u32,
+    signal: &[u8],
+    weak: &[u8],
+    strong: &[u8],
+) -> usize
+    requires { ⌜ (Rows·rows (now table) ≤ 1024) × (room ≤ length (now out)) ⌝ }
+    ensures { λ r. ⌜ Puts (settledText (now (table .entry)) rounds (now (signal .entry)) (now (weak .entry)) (now (strong .entry))) 0 (now (out .entry)) (now (out .exit)) r ⌝ }
+{
+    let second = put::line(out, 0, b"blocks=", row::rows(table) as u64);
+    let third = put::line(out, second, b"rounds=", rounds as u64);
+    rows(out, third, table, signal, weak, strong)
 }
 
 // The number of a refusal, and the row at fault.

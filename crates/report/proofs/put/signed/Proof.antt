@@ -25,8 +25,6 @@ number-requires c κs = search needs
 same-length : tie.Need-same-length
 same-length c = search needs
 
-
-
 returns : tie.Need-returns
 returns c =
     let s = c .before .before .before .before .before .before .before .before .before .before .before .before in
