@@ -3,3 +3,4 @@ pub mod Digits
 pub mod Putting
 pub mod Signs
 pub mod Run
+mod Examples

@@ -2,13 +2,13 @@
 -- Assumes nothing.
 use mathlib.Core.Path.{_≡_, refl}
 use mathlib.Core.Bool.{Bool, true, false, cond, _||_}
-use Prim.Native.Nat.{ℕ, _*_, _≤_, _<_}
+use Prim.Native.Nat.{ℕ, _≤_, _<_}
 use native.Mathlib.Omega.{arith}
 use lib.ListN.{length, take, replicate, length-take, length-replicate}
 use lib.Seq.{length-take-le}
 use lib.Dec.{eqb, leb}
 use borrow.Author.Tests.{eq-eqb, ne-eqb, le-leb, lt-leb}
-use Rattle.columns.specs.Column.{Bytes, Column, row}
+use Rattle.columns.specs.Column.{Bytes}
 use Rattle.columns.proofs.Columns.{length-tabulate, row-tabulate}
 use Rattle.blocks.specs.Kind.{RedstoneTorch, Repeater, Comparator}
 use Rattle.world.specs.Rows.{rows, kindOf, poweredOf, isPowered, levelOr}

@@ -1,9 +1,9 @@
 -- `report::checked` meets its contract, by what the check answers. Assumes nothing.
 use mathlib.Core.Path.{_≡_, sym, _∙_}
+use borrow.Author.Needs.{needs}
 use Rattle.refusals.specs.declared.Checked.the-variants.{Accepted}
 use Rattle.refusals.specs.Check.{checkInput}
 use Rattle.report.proofs.Run.{run-accepted, run-refused}
-use borrow.Author.Needs.{needs}
 use Rattle.report.proofs.checked.Statement.{statement}
 use Rattle.report.proofs.checked.Tie as tie
 

@@ -1,9 +1,9 @@
+-- `report::settled` meets its contract: an accepted table has no more rows than the arrays have room for. Assumes nothing.
 use mathlib.Core.Path.{sym, ap, _∙_}
 use Prim.Native.Nat.{_*_, _≤_}
--- `report::settled` meets its contract: an accepted table has no more rows than the arrays have room for. Assumes nothing.
 use native.Mathlib.Omega.{arith}
-use Rattle.report.proofs.Run.{run-few, lent}
 use borrow.Author.Needs.{needs}
+use Rattle.report.proofs.Run.{run-few, lent}
 use Rattle.report.proofs.settled.Statement.{statement}
 use Rattle.report.proofs.settled.Tie as tie
 

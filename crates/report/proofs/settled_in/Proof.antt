@@ -1,7 +1,7 @@
 -- `report::settled_in` meets its contract: nothing is refused, so that the columns hold what the table settles to. Assumes nothing.
+use borrow.Author.Needs.{needs}
 use Rattle.report.specs.Text.{runText}
 use Rattle.report.proofs.Run.{run-few, fresh-accepted}
-use borrow.Author.Needs.{needs}
 use Rattle.report.proofs.settled_in.Statement.{statement}
 use Rattle.report.proofs.settled_in.Tie as tie
 

@@ -4,8 +4,8 @@ use Prim.Native.Nat.{_-_}
 use native.Mathlib.Omega.{arith}
 use lib.ListN.{length, take, drop, length-drop}
 use lib.Seq.{take-all}
-use Rattle.report.proofs.Run.{crowded-text, short-text, whole-text}
 use borrow.Author.Needs.{needs}
+use Rattle.report.proofs.Run.{crowded-text, short-text, whole-text}
 use Rattle.report.proofs.whole.Statement.{statement}
 use Rattle.report.proofs.whole.Tie as tie
 

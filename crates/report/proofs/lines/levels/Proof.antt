@@ -1,8 +1,8 @@
 -- `report::lines::levels` meets its contract. Assumes nothing.
 use mathlib.Core.List.{append-assoc}
 use native.Mathlib.Omega.{arith}
-use Rattle.report.proofs.Putting.{puts-then}
 use borrow.Author.Needs.{needs}
+use Rattle.report.proofs.Putting.{puts-then}
 use Rattle.report.proofs.lines.levels.Statement.{statement}
 use Rattle.report.proofs.lines.levels.Tie as tie
 

@@ -1,8 +1,8 @@
 -- `report::lines::line_of` meets its contract. Assumes nothing.
 use native.Mathlib.Omega.{arith}
+use borrow.Author.Needs.{needs}
 use Rattle.report.specs.Text.{rowText}
 use Rattle.report.proofs.Putting.{puts-then}
-use borrow.Author.Needs.{needs}
 use Rattle.report.proofs.lines.line_of.Statement.{statement}
 use Rattle.report.proofs.lines.line_of.Tie as tie
 

@@ -3,9 +3,9 @@ use mathlib.Core.List.{append-assoc}
 use native.Mathlib.Omega.{arith}
 use mir.Syntax.{w32}
 use mir.Val.{SFits}
+use borrow.Author.Needs.{needs}
 use Rattle.places.proofs.Signs.{back32}
 use Rattle.report.proofs.Putting.{puts-then}
-use borrow.Author.Needs.{needs}
 use Rattle.report.proofs.lines.place.Statement.{statement}
 use Rattle.report.proofs.lines.place.Tie as tie
 

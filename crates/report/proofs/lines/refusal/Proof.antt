@@ -1,7 +1,7 @@
 -- `report::lines::refusal` meets its contract. Assumes nothing.
+use borrow.Author.Needs.{needs}
 use Rattle.report.specs.Text.{refusalText}
 use Rattle.report.proofs.Putting.{puts-then}
-use borrow.Author.Needs.{needs}
 use Rattle.report.proofs.lines.refusal.Statement.{statement}
 use Rattle.report.proofs.lines.refusal.Tie as tie
 

@@ -1,11 +1,10 @@
 -- `report::lines::rows` meets its contract. The loop's invariant: the lines of the first `i` rows are put. Assumes nothing.
-use borrow.Author.Needs.{needs}
 use mathlib.Core.Path.{_≡_, ap, _∙_}
 use mathlib.Core.List.{_++_}
 use Prim.Native.Nat.{_+_, _*_, _-_, _≤_}
 use native.Mathlib.Nat.{zero-add}
 use native.Mathlib.Omega.{arith}
-use lib.ListN.{length}
+use borrow.Author.Needs.{needs}
 use Rattle.columns.specs.Column.{joinedFrom, joined}
 use Rattle.columns.proofs.Parts.{joined-more}
 use Rattle.world.specs.Rows.{rows}

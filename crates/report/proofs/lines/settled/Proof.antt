@@ -1,7 +1,7 @@
 -- `report::lines::settled` meets its contract. Assumes nothing.
+use borrow.Author.Needs.{needs}
 use Rattle.report.specs.Text.{settledText}
 use Rattle.report.proofs.Putting.{puts-then}
-use borrow.Author.Needs.{needs}
 use Rattle.report.proofs.lines.settled.Statement.{statement}
 use Rattle.report.proofs.lines.settled.Tie as tie
 

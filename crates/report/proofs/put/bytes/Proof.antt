@@ -1,5 +1,4 @@
 -- `report::put::bytes` meets its contract. The loop's invariant: the first `i` bytes of the text are put. Assumes nothing.
-use borrow.Author.Needs.{needs}
 use mathlib.Core.Path.{_≡_}
 use Prim.Native.Nat.{_≤_, _-_, _+_}
 use native.Mathlib.Nat.{add-zero}
@@ -7,6 +6,7 @@ use native.Mathlib.Numerals.{add-one}
 use native.Mathlib.Omega.{arith}
 use lib.ListN.{length, take, getD}
 use lib.Seq.{take-suc, take-length}
+use borrow.Author.Needs.{needs}
 use Rattle.report.specs.Put.{Puts}
 use Rattle.report.proofs.Putting.{puts-none, puts-more, puts-length}
 use Rattle.report.proofs.put.bytes.Statement.{statement}

@@ -1,8 +1,8 @@
 -- `report::put::level` meets its contract. Assumes nothing.
 use native.Mathlib.Omega.{arith}
 use lib.ListN.{length-append}
-use Rattle.report.proofs.Digits.{decimal-few}
 use borrow.Author.Needs.{needs}
+use Rattle.report.proofs.Digits.{decimal-few}
 use Rattle.report.proofs.put.level.Statement.{statement}
 use Rattle.report.proofs.put.level.Tie as tie
 

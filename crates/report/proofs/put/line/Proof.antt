@@ -1,11 +1,11 @@
 -- `report::put::line` meets its contract. Assumes nothing.
-use native.Mathlib.Omega.{arith}
 use mathlib.Core.List.{append-assoc}
+use native.Mathlib.Omega.{arith}
 use lib.ListN.{length-append}
+use borrow.Author.Needs.{needs}
 use Rattle.report.specs.Text.{lineOf}
 use Rattle.report.proofs.Digits.{decimal-few}
 use Rattle.report.proofs.Putting.{puts-then}
-use borrow.Author.Needs.{needs}
 use Rattle.report.proofs.put.line.Statement.{statement}
 use Rattle.report.proofs.put.line.Tie as tie
 

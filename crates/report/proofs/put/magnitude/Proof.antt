@@ -1,5 +1,5 @@
-use mathlib.Core.Path.{refl}
 -- `report::put::magnitude` meets its contract: a number is read back from its bits. Assumes nothing.
+use mathlib.Core.Path.{refl}
 use Rattle.places.proofs.Signs.{back32, back64, up}
 use Rattle.report.proofs.Signs.{Below, below, From, from, size-few}
 use Rattle.report.proofs.put.magnitude.Statement.{statement}

@@ -1,13 +1,13 @@
-use Rattle.report.specs.Put.{Puts}
 -- `report::put::number` meets its contract. Assumes nothing.
 use mathlib.Core.Path.{_≡_, sym, _∙_}
 use Prim.Native.Nat.{_≤_}
 use native.Mathlib.Omega.{arith}
 use lib.ListN.{length, take}
+use borrow.Author.Needs.{needs}
+use Rattle.report.specs.Put.{Puts}
 use Rattle.report.specs.Text.{decimalOf}
 use Rattle.report.proofs.Digits.{decimal-is, decimal-few}
 use Rattle.report.proofs.Putting.{puts-more, puts-length}
-use borrow.Author.Needs.{needs}
 use Rattle.report.proofs.put.number.Statement.{statement}
 use Rattle.report.proofs.put.number.Tie as tie
 

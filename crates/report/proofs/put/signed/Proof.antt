@@ -1,12 +1,11 @@
 -- `report::put::signed` meets its contract, by the sign. Assumes nothing.
-use mathlib.Core.List.{append-assoc}
 use native.Mathlib.Omega.{arith}
 use lib.ListN.{length-append}
+use borrow.Author.Needs.{needs}
 use Rattle.places.proofs.Signs.{back32}
 use Rattle.report.proofs.Digits.{decimal-few}
 use Rattle.report.proofs.Putting.{puts-then}
 use Rattle.report.proofs.Signs.{below, from}
-use borrow.Author.Needs.{needs}
 use Rattle.report.proofs.put.signed.Statement.{statement}
 use Rattle.report.proofs.put.signed.Tie as tie
 
