@@ -16,7 +16,7 @@ same-length : tie.Need-same-length
 same-length c = search needs
 
 returns : tie.Need-returns
-returns c = rw (crowded-text (c .before .before .before .before .before .before .before .args .input .now) (c .before .before .before .before .if1 .taken)) (c .before .before .refusal .ensures)
+returns c = rw (crowded-text (c .before .before .before .before .before .before .before .args .input .now) (omega arith)) (c .before .before .refusal .ensures)
 
 refusal-requires-2 : tie.Need-refusal-requires-2
 refusal-requires-2 c κs = search needs
@@ -55,7 +55,7 @@ returns-3 : tie.Need-returns-3
 returns-3 c =
     let input = c .before .before .before .before .before .before .before .before .before .before .args .input .now in
     let rest : take (length input - 13) (drop 13 input) ≡ drop 13 input = take-all (length input - 13) (drop 13 input) (rw length-drop (omega arith)) in
-    rw (whole-text input (c .before .before .before .before .before .before .before .if1 .left)) (rw rest at (c .before .before .checked .ensures))
+    rw (whole-text input (omega arith)) (rw rest at (c .before .before .checked .ensures))
 
 pub whole-spec : {M : Type 1} → statement M
 whole-spec =

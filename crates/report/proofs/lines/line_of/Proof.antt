@@ -30,10 +30,9 @@ same-length c = search needs
 returns : tie.Need-returns
 unfolding rowText
 returns c =
-    let first = c .before .before .before .before .before .before .before .before .before .place .ensures in
-    let second = c .before .before .levels .ensures in
-    let p = puts-then (first .0) (second .0) in
-    (rw (← c .before .before .before .before .before .before .before .before .before .before .pos-of .ensures, ← c .before .before .before .before .before .byte-at .ensures, ← c .before .before .before .before .byte-at2 .ensures, ← c .before .before .before .byte-at3 .ensures) p, omega (arith, first .1, second .1))
+    let first = rw (c .before .before .before .before .before .before .before .before .before .before .pos-of .ensures) at (c .before .before .before .before .before .before .before .before .before .place .ensures) in
+    let second = rw (c .before .before .before .before .before .byte-at .ensures, c .before .before .before .before .byte-at2 .ensures, c .before .before .before .byte-at3 .ensures) at (c .before .before .levels .ensures) in
+    (puts-then (first .0) (second .0), omega (arith, first .1, second .1))
 
 pub line-of-spec : {M : Type 1} → statement M
 line-of-spec =

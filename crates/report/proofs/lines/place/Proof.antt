@@ -33,12 +33,12 @@ returns c =
     let fx : SFits w32 (q .x) = search needs in
     let fy : SFits w32 (q .y) = search needs in
     let fz : SFits w32 (q .z) = search needs in
-    let x = rw (back32 (q .x) fx) at (c .before .before .before .before .before .before .before .before .before .before .before .before .signed .ensures) in
-    let y = rw (back32 (q .y) fy) at (c .before .before .before .before .before .before .before .signed2 .ensures) in
-    let z = rw (back32 (q .z) fz) at (c .before .before .signed3 .ensures) in
     let name = c .before .before .before .before .before .before .before .before .before .before .before .before .before .before .before .before .before .bytes .ensures in
+    let x = c .before .before .before .before .before .before .before .before .before .before .before .before .signed .ensures in
+    let y = c .before .before .before .before .before .before .before .signed2 .ensures in
+    let z = c .before .before .signed3 .ensures in
     let p = puts-then (puts-then (puts-then name (x .0)) (y .0)) (z .0) in
-    (simp append-assoc (simp append-assoc at p), omega (arith, name .end, x .1, y .1, z .1))
+    (simp append-assoc (rw (← back32 (q .x) fx, ← back32 (q .y) fy, ← back32 (q .z) fz) (simp append-assoc at p)), omega (arith, name .end, x .1, y .1, z .1))
 
 pub place-spec : {M : Type 1} → statement M
 place-spec =
