@@ -3,4 +3,5 @@ pub mod Digits
 pub mod Putting
 pub mod Signs
 pub mod Run
+pub mod Length
 mod Examples
