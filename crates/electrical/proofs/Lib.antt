@@ -1,3 +1,4 @@
 pub mod Emitted
 pub mod Devices
 pub mod Demand
+pub mod Apart

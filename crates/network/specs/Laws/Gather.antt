@@ -14,13 +14,13 @@ use Rattle.network.specs.Levels.{top, arriving}
 
 -- ---- `top` is the least number that no f j is above
 
-le-top : (n : ℕ) (f : ℕ → ℕ) (j : ℕ) → j < n → f j ≤ top n f
+pub le-top : (n : ℕ) (f : ℕ → ℕ) (j : ℕ) → j < n → f j ≤ top n f
 unfolding top
 le-top zero f j h = absurd (not-suc-le-zero h)
 le-top (suc n) f j h =
     ⊎-elim (λ e. rw e (le-max-right _ _)) (λ l. le-trans (le-top n f j l) (le-max-left _ _)) (eq-or-lt-of-le (le-of-suc-le-suc h))
 
-top-least : (n : ℕ) (f : ℕ → ℕ) (m : ℕ) → ((j : ℕ) → j < n → f j ≤ m) → top n f ≤ m
+pub top-least : (n : ℕ) (f : ℕ → ℕ) (m : ℕ) → ((j : ℕ) → j < n → f j ≤ m) → top n f ≤ m
 unfolding top
 top-least zero f m h = zero-le
 top-least (suc n) f m h = max-le (top-least n f m (λ j l. h j (omega arith))) (h n (le-refl _))

@@ -1,0 +1,42 @@
+-- `electrical::edges::is_held_by` meets its contract. Assumes nothing.
+use mathlib.Core.Path.{sym, _∙_}
+use Rattle.electrical.specs.Edges.{isHeldBy}
+use borrow.Author.Needs.{needs}
+use Rattle.electrical.proofs.edges.is_held_by.Statement.{statement}
+use Rattle.electrical.proofs.edges.is_held_by.Tie as tie
+
+kind-of-requires : tie.Need-kind-of-requires
+kind-of-requires c κs = search needs
+
+is-switch-requires : tie.Need-is-switch-requires
+is-switch-requires c κs = search needs
+
+support-pos-requires : tie.Need-support-pos-requires
+support-pos-requires c κs = search needs
+
+pos-of-requires : tie.Need-pos-of-requires
+pos-of-requires c κs = search needs
+
+is-at-requires : tie.Need-is-at-requires
+is-at-requires c κs = search needs
+
+returns : tie.Need-returns
+unfolding isHeldBy
+returns c =
+    λ p. rw (← c .before .before .before .before .before .kind-of .ensures, sym (c .before .before .before .before .is-switch .ensures) ∙ c .before .before .before .if1 .taken) (cc)
+
+returns-2 : tie.Need-returns-2
+unfolding isHeldBy
+returns-2 c = λ p. rw (← c .before .before .kind-of .ensures, sym (c .before .is-switch .ensures) ∙ c .if1 .left)
+
+pub is-held-by-spec : {M : Type 1} → statement M
+is-held-by-spec =
+    tie.close
+    (tie.spec
+    kind-of-requires
+    is-switch-requires
+    support-pos-requires
+    pos-of-requires
+    is-at-requires
+    returns
+    returns-2)

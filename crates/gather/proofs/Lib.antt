@@ -1,0 +1,4 @@
+pub mod Levels
+pub mod Arriving
+pub mod Near
+pub mod Slotted

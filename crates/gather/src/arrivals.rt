@@ -1,0 +1,93 @@
+// What arrives from sources that no round changes.
+use crate::larger;
+use electrical::edges;
+use electrical::output::component_output_level;
+use world::row::rows;
+use world::traits::redstone_traits;
+ghost use mathlib.Core.Path.{_≡_};
+ghost use Prim.Native.Nat.{ℕ};
+ghost use lib.ListN.{length};
+ghost use Rattle.columns.specs.Column.{row, tabulate};
+ghost use Rattle.network.specs.Levels.{arriving};
+ghost use Rattle.network.specs.Laws.Loop.{unmapped};
+ghost use Rattle.electrical.specs.Emitted.{emittedLevel};
+ghost use Rattle.electrical.specs.Edges.{networkOf};
+ghost use Rattle.gather.specs.Arrivals.{reaches, directAt};
+
+// The edges from such sources.
+pub enum Edge {
+    Strongly,
+    Through,
+    Lights,
+    Drives,
+}
+
+fn reaches(edge: Edge, profile: &[u8], table: &[u8], j: usize, i: usize) -> bool
+    ensures { λ r. ⌜ r ≡ reaches edge (now (profile .entry)) (now (table .entry)) j i ⌝ }
+{
+    match edge {
+        Edge::Strongly => edges::strongly(profile, table, j, i),
+        Edge::Through => edges::through(profile, table, j, i),
+        Edge::Lights => edges::lights(profile, table, j, i),
+        Edge::Drives => edges::drives(profile, table, j, i),
+    }
+}
+
+// The largest level that arrives at row i. The edge is asked only of a source above all before it.
+pub fn arriving(edge: Edge, profile: &[u8], table: &[u8], levels: &[u8], i: usize) -> u8
+    ensures { λ r. ⌜ r ≡ arriving (length (now (levels .entry))) (reaches edge (now (profile .entry)) (now (table .entry))) (row (now (levels .entry))) i ⌝ }
+{
+    let mut best = 0;
+    let mut j = 0;
+    while j < levels.len() {
+        let level = levels[j];
+        if best < level {
+            if reaches(edge, profile, table, j, i) {
+                best = level;
+            }
+        }
+        j += 1;
+    }
+    best
+}
+
+// The largest level that arrives at each row.
+pub fn fill_arriving(edge: Edge, profile: &[u8], table: &[u8], levels: &[u8], out: &mut [u8])
+    ensures { λ _. ⌜ now (out .exit) ≡ tabulate (length (now (out .entry))) (arriving (length (now (levels .entry))) (reaches edge (now (profile .entry)) (now (table .entry))) (row (now (levels .entry)))) ⌝ }
+{
+    for i in 0..out.len() {
+        out[i] = arriving(edge, profile, table, levels, i);
+    }
+}
+
+// The direct level of each row, of the emitted levels and the strong power.
+pub fn fill_direct(profile: &[u8], table: &[u8], emitted: &[u8], charged: &[u8], out: &mut [u8])
+    ensures { λ _. ⌜ now (out .exit) ≡ tabulate (length (now (out .entry))) (directAt (now (profile .entry)) (now (table .entry)) (now (emitted .entry)) (now (charged .entry))) ⌝ }
+{
+    for i in 0..out.len() {
+        let lit = arriving(Edge::Lights, profile, table, emitted, i);
+        let driven = arriving(Edge::Drives, profile, table, charged, i);
+        out[i] = larger(lit, driven);
+    }
+}
+
+// The level that each row emits.
+pub fn fill_emitted(table: &[u8], devices: &[u8], out: &mut [u8])
+    ensures { λ _. ⌜ now (out .exit) ≡ tabulate (length (now (out .entry))) (λ i. emittedLevel (now (table .entry)) i (row (now (devices .entry)) i)) ⌝ }
+{
+    for i in 0..out.len() {
+        out[i] = component_output_level(table, i, columns::byte_at(devices, i));
+    }
+}
+
+// Whether no row receives power: the power map is empty.
+pub fn unmapped(profile: &[u8], table: &[u8]) -> bool
+    ensures { λ r. ⌜ r ≡ unmapped (networkOf (now (profile .entry)) (now (table .entry))) ⌝ }
+{
+    for i in 0..rows(table) {
+        if redstone_traits(profile, table, i).conducts() {
+            return false;
+        }
+    }
+    true
+}

@@ -1,0 +1,51 @@
+-- Laws of a call: what its checks say, and what it answers and writes by how settling ends.
+-- Assumes nothing.
+use mathlib.Core.Path.{_≡_, refl, _∙_}
+use mathlib.Core.Bool.{Bool, true, false, cond, _&&_}
+use Prim.Native.Nat.{ℕ}
+use lib.ListN.{length}
+use lib.Dec.{eqb, leb}
+use borrow.Author.Tests.{eqb-true}
+use Rattle.columns.specs.Column.{Bytes, Column}
+use Rattle.columns.proofs.Truth.{and-true}
+use Rattle.world.specs.Rows.{rows}
+use Rattle.refusals.specs.declared.Checked.the-variants.{Accepted, Refused}
+use Rattle.refusals.specs.Check.{refuseUnless, checkInput, answerOf}
+use Rattle.refusals.proofs.Passed.{passed-unless, passed-both}
+use Rattle.refusals.proofs.Accepted.{Table, accepted-input}
+use Rattle.electrical.specs.Emitted.{checkDevices}
+use Rattle.electrical.specs.Answer.{roundsOf, settled, goodColumns, checkCall, checkSettle, Settles}
+use Rattle.solver.specs.Prepared.{Outputs}
+use Rattle.solver.specs.Outcome.{outcomeOf, answerBy, Solves}
+use Rattle.solver.specs.declared.Outcome.{Outcome}
+use Rattle.solver.specs.declared.Outcome.the-variants.{Settled, Unsettled}
+
+module _ (p t : Bytes) (d signal weak strong : Column) where
+  -- a call that passes its checks
+  pub passed-call : checkCall p t d (length signal) (length weak) (length strong) ≡ Accepted → Table t × Outputs t signal weak strong
+  unfolding checkCall
+  passed-call h =
+      let (input, rest) = passed-both (checkInput p t) _ h in
+      let (_, columns) = passed-both (checkDevices t d) _ rest in
+      let (good, _) = passed-unless 7 (goodColumns t (length signal) (length weak) (length strong)) Accepted columns in
+      let (s, others) = and-true (eqb (length signal) (rows t)) _ good in
+      let (w, g) = and-true (eqb (length weak) (rows t)) _ others in
+      (accepted-input p t input .1, record { signal-rows = eqb-true _ _ s; weak-rows = eqb-true _ _ w; strong-rows = eqb-true _ _ g })
+
+  module _ {limit : ℕ} where
+    -- is settled, or refused by its limit
+    pub answers-solved : {signal′ weak′ strong′ : Column} {r : Outcome} → checkCall p t d (length signal) (length weak) (length strong) ≡ Accepted
+        → Solves (roundsOf p t d) (settled p t d) limit signal weak strong signal′ weak′ strong′ r
+        → Settles p t d limit signal weak strong signal′ weak′ strong′ (answerBy r)
+    unfolding checkSettle outcomeOf
+    answers-solved {r = r} h s = record { answer = rw h (go (leb (roundsOf p t d) limit) (s .answer)); columns = rw h (s .columns) }
+      where
+        go : (b : Bool) → r ≡ cond b (Settled (roundsOf p t d)) Unsettled → answerBy r ≡ answerOf (refuseUnless 8 b Accepted) (roundsOf p t d)
+        go true e = rw e
+        go false e = rw e
+
+    -- a call that does not is refused, and writes nothing
+    pub answers-refused : {n i : ℕ} → checkCall p t d (length signal) (length weak) (length strong) ≡ Refused n i
+        → Settles p t d limit signal weak strong signal weak strong (answerOf (Refused n i) 0)
+    unfolding checkSettle
+    answers-refused h = record { answer = rw h; columns = rw h (record { signals = refl; weaks = refl; strongs = refl }) }

@@ -1,0 +1,29 @@
+-- Laws of the front of an array of zeros, lent as a column.
+-- Assumes nothing.
+use mathlib.Core.Path.{_≡_, sym, _∙_}
+use Prim.Native.Nat.{ℕ, _+_, _*_, _≤_, _<_}
+use native.Mathlib.Omega.{arith}
+use lib.ListN.{length, take, replicate, length-replicate, getD-replicate}
+use lib.Seq.{length-take-le, getD-take}
+use Rattle.columns.specs.Column.{Bytes}
+use Rattle.columns.proofs.Columns.{is-tabulate}
+use Rattle.network.specs.Network.{nowhere}
+use Rattle.world.specs.Rows.{rows}
+use Rattle.refusals.proofs.Accepted.{Table}
+use Rattle.electrical.specs.Edges.{networkOf}
+
+-- as long as it was taken
+pub length-zeros : (n m : ℕ) → n ≤ m → length (take {A = ℕ} n (replicate m 0)) ≡ n
+length-zeros n m h = length-take-le n (replicate m 0) (rw (length-replicate {A = ℕ} m 0) h)
+
+-- w entries a row of an accepted table
+module _ {t : Bytes} (accepted : Table t) (n : ℕ) (is : n ≡ rows t) where
+  pub fits : n ≤ 1024
+  fits = omega (arith, accepted .few)
+
+  -- no power anywhere
+  pub zeros-nowhere : (p : Bytes) → take {A = ℕ} n (replicate 1024 0) ≡ nowhere (networkOf p t)
+  unfolding nowhere networkOf
+  zeros-nowhere p =
+      is-tabulate (take n (replicate 1024 0)) (rows t) (λ i. 0) (length-zeros n 1024 fits ∙ is)
+      (λ i l. getD-take n (replicate 1024 0) i 0 (omega arith) ∙ getD-replicate 1024 i 0 0 (omega (arith, accepted .few)))

@@ -1,0 +1,68 @@
+-- `solver::prepare::prepare` meets its contract. Assumes nothing.
+use borrow.Author.Needs.{needs}
+use Rattle.solver.proofs.Preparing.{made}
+use Rattle.solver.proofs.prepare.prepare.Statement.{statement}
+use Rattle.solver.proofs.prepare.prepare.Tie as tie
+
+fill-emitted-requires : tie.Need-fill-emitted-requires
+fill-emitted-requires c κs = search needs
+
+fill-arriving-requires : tie.Need-fill-arriving-requires
+fill-arriving-requires c κs = search needs
+
+fill-arriving-requires-2 : tie.Need-fill-arriving-requires-2
+fill-arriving-requires-2 c κs = search needs
+
+fill-direct-requires : tie.Need-fill-direct-requires
+fill-direct-requires c κs = search needs
+
+fill-feeders-requires : tie.Need-fill-feeders-requires
+fill-feeders-requires c κs = search needs
+
+fill-unders-requires : tie.Need-fill-unders-requires
+fill-unders-requires c κs = search needs
+
+unmapped-requires : tie.Need-unmapped-requires
+unmapped-requires c κs = search needs
+
+same-length : tie.Need-same-length
+same-length c = search needs
+
+same-length-2 : tie.Need-same-length-2
+same-length-2 c = search needs
+
+same-length-3 : tie.Need-same-length-3
+same-length-3 c = search needs
+
+same-length-4 : tie.Need-same-length-4
+same-length-4 c = search needs
+
+same-length-5 : tie.Need-same-length-5
+same-length-5 c = search needs
+
+same-length-6 : tie.Need-same-length-6
+same-length-6 c = search needs
+
+returns : tie.Need-returns
+returns c = let (accepted, room) = c .before .before .before .before .before .before .before .before .before .before .before .before .before .before .before .before .before .before .before .before .before .before .before .before .before .before .before .before .before .before .before .before .before .before .before .before .before .before .pre in
+    made (c .before .before .before .before .before .before .before .before .before .before .before .before .before .before .before .before .before .before .before .before .before .before .before .before .before .before .before .before .before .before .before .before .before .before .before .before .before .before .args .profile .now) (c .before .before .before .before .before .before .before .before .before .before .before .before .before .before .before .before .before .before .before .before .before .before .before .before .before .before .before .before .before .before .before .before .before .before .before .before .before .before .args .devices .now) accepted room (c .before .before .before .before .before .before .before .before .before .before .before .before .before .before .before .before .before .before .before .before .before .before .before .before .before .before .before .fill-emitted .ensures) (c .before .before .before .before .before .before .before .before .before .before .before .before .before .before .before .before .before .before .before .before .before .before .fill-arriving .ensures) (c .before .before .before .before .before .before .before .before .before .before .before .before .before .before .before .before .before .fill-arriving2 .ensures)
+    (c .before .before .before .before .before .before .before .before .before .before .before .fill-direct .ensures) (c .before .before .before .before .before .before .before .fill-feeders .ensures) (c .before .before .before .fill-unders .ensures) (c .unmapped .ensures)
+
+pub prepare-spec : {M : Type 1} → statement M
+prepare-spec =
+    tie.close
+    (tie.spec
+    fill-emitted-requires
+    fill-arriving-requires
+    fill-arriving-requires-2
+    fill-direct-requires
+    fill-feeders-requires
+    fill-unders-requires
+    unmapped-requires
+    same-length
+    same-length-2
+    same-length-3
+    same-length-4
+    same-length-5
+    same-length-6
+    returns)
