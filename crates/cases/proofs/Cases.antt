@@ -17,8 +17,8 @@ use Rattle.wire.specs.declared.transfer.DustTransfer.{DustTransfer}
 use Rattle.wire.specs.declared.transfer.DustTransfer.the-variants.{Horizontal, Rise, FallThroughConductor, NoTransfer}
 use Rattle.wire.specs.Transfer.{dustTransfer}
 use Rattle.electrical.specs.Answer.{roundsOf, settled, checkSettle}
-use Rattle.sim.specs.State.{sixteen, deviceOf, togglesOf, candidateOf, delayOf, bitsSet}
-use Rattle.sim.specs.Fresh.{freshDevices, freshState}
+use Rattle.devices.specs.Row.{deviceOf, togglesOf, candidateOf, delayOf, bitsSet}
+use Rattle.sim.specs.State.{sixteen, freshDevices, freshState}
 use Rattle.sim.specs.Tick.{tick, ticks}
 use Rattle.sim.specs.Calls.{switched}
 use Rattle.cases.proofs.Computing.{computing}

@@ -18,11 +18,13 @@ use Rattle.wire.specs.Transfer.{isLevel, isRise, isFall, fits, ruleAlong, first
 use Rattle.electrical.specs.Emitted.{goodDevice, checkDevices, switchLevel, emittedLevel, emitted}
 use Rattle.electrical.specs.Edges.{outputsTo, isHeldBy, isCharged, strongly, through, armTo, alongArm, under, touches, feeds, lights, drives, networkOf}
 use Rattle.electrical.specs.Answer.{roundsOf, settled, checkCall, checkSettle}
-use Rattle.sim.specs.State.{devicesOf, delayOf, bitsSet, isCandidate, goodQueue, goodLamp, goodTorch, goodState, checkState}
-use Rattle.sim.specs.Fresh.{freshDevice, freshDevices, freshQueue, freshLamp, freshRow, freshState}
-use Rattle.sim.specs.Tick.{repeaterInputLevel, isRequested, locksFrom, isLocked, nextQueue, repeaterRow, nextTorch, nextToggles, nextCandidate, torchRow, compared, nextComparator, deviceRow, nextLit, nextLeft, lampRow, settledOf, setDevices, setLamps, tick, ticks}
+use Rattle.devices.specs.Row.{delayOf, bitsSet, isCandidate, goodQueue, goodLamp, goodTorch, goodState}
+use Rattle.devices.specs.Fresh.{freshDevice, freshQueue, freshLamp, freshRow}
+use Rattle.devices.specs.Step.{repeaterInputLevel, isRequested, locksFrom, isLocked, nextQueue, repeaterRow, torchSupportIsPowered, nextToggles, nextCandidate, torchRow, compared, nextComparator, deviceRow, nextLit, nextLeft, lampRow}
+use Rattle.sim.specs.State.{devicesOf, checkState, freshDevices, freshState}
+use Rattle.sim.specs.Tick.{withDevices, withLamps, settledOf, setDevices, setLamps, tick, ticks}
 use Rattle.sim.specs.Calls.{checkFresh, checkStep, checkTick, switched}
 
 unfoldable pub computing : ℕ
-unfolding tabulateFrom joinedFrom same firstFrom indicesFrom settling says signed32 signed8 clamp32 satAdd samePos before opposite step horizontalOffset beside adjacent posOf supportOf storedArm find kindAt plain ofShape traits traitsAt goodProfile goodPlace goodRow checkRows checkTable checkInput ahead outputOf inputOf across sidesOf connects componentConnects joins rises drops inferPast inferWireConnection armOf hasArm isLevel isRise isFall fits ruleAlong firstRule transferOf dustTransfer transmits goodDevice checkDevices switchLevel emittedLevel emitted outputsTo isHeldBy isCharged strongly through armTo alongArm under touches feeds lights drives networkOf roundsOf settled checkCall checkSettle devicesOf delayOf bitsSet isCandidate goodQueue goodLamp goodTorch goodState checkState freshDevice freshDevices freshQueue freshLamp freshRow freshState repeaterInputLevel isRequested locksFrom isLocked nextQueue repeaterRow nextTorch nextToggles nextCandidate torchRow compared nextComparator deviceRow nextLit nextLeft lampRow settledOf setDevices setLamps tick ticks checkFresh checkStep checkTick switched
+unfolding tabulateFrom joinedFrom same firstFrom indicesFrom settling says signed32 signed8 clamp32 satAdd samePos before opposite step horizontalOffset beside adjacent posOf supportOf storedArm find kindAt plain ofShape traits traitsAt goodProfile goodPlace goodRow checkRows checkTable checkInput ahead outputOf inputOf across sidesOf connects componentConnects joins rises drops inferPast inferWireConnection armOf hasArm isLevel isRise isFall fits ruleAlong firstRule transferOf dustTransfer transmits goodDevice checkDevices switchLevel emittedLevel emitted outputsTo isHeldBy isCharged strongly through armTo alongArm under touches feeds lights drives networkOf roundsOf settled checkCall checkSettle devicesOf delayOf bitsSet isCandidate goodQueue goodLamp goodTorch goodState checkState freshDevice freshDevices freshQueue freshLamp freshRow freshState repeaterInputLevel isRequested locksFrom isLocked nextQueue repeaterRow torchSupportIsPowered nextToggles nextCandidate torchRow compared nextComparator deviceRow nextLit nextLeft lampRow withDevices withLamps settledOf setDevices setLamps tick ticks checkFresh checkStep checkTick switched
 computing = 0

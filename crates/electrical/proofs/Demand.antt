@@ -18,8 +18,8 @@ use Rattle.blocks.specs.Kind.{isDust}
 use Rattle.world.specs.Rows.{rows, kindOf}
 use Rattle.world.specs.Traits.{traits, conducts}
 use Rattle.refusals.specs.declared.Checked.the-variants.{Accepted, Refused}
-use Rattle.refusals.specs.Check.{checkInput}
-use Rattle.electrical.specs.Emitted.{emitted, emittedLevel, checkDevices}
+use Rattle.refusals.specs.Check.{IsAccepted}
+use Rattle.electrical.specs.Emitted.{IsValid, emitted}
 use Rattle.electrical.specs.Edges.{strongly, through, under, networkOf}
 use Rattle.electrical.specs.Answer.{roundsOf, settled, checkCall, checkSettle, Columns, Settles}
 use Rattle.electrical.proofs.Emitted.{emitted-larger, emitted-byte}
@@ -39,7 +39,7 @@ module _ (p t : Bytes) (d : Column) where
   rounds-range = Network.rounds-range (networkOf p t) (emitted t d)
 
   -- "so settle with a limit from 17 up never calls it unsettled"
-  pub never-unsettled : checkInput p t ≡ Accepted → checkDevices t d ≡ Accepted
+  pub never-unsettled : IsAccepted p t → IsValid t d
       → (limit : ℕ) → 17 ≤ limit → checkSettle p t d limit (rows t) (rows t) (rows t) ≡ Accepted
   unfolding checkSettle checkCall
   never-unsettled input devices limit h =
@@ -75,12 +75,12 @@ module _ (p t : Bytes) {a b c : Column} (j : Rows Larger a b c) where
   rounds-join = Network.rounds-larger (networkOf p t) (emitted-larger t j)
 
 pub record Joined (p t : Bytes) (a b c : Column) : Type 0 where
-  pub valid : checkDevices t c ≡ Accepted
+  pub valid : IsValid t c
   pub numbers : States Larger (settled p t a) (settled p t b) (settled p t c)
   pub rounds : roundsOf p t c ≤ max (roundsOf p t a) (roundsOf p t b)
 
 -- of two valid columns of a table the joined one is valid, and settles so
-pub joined : (p t : Bytes) (a b : Column) → checkDevices t a ≡ Accepted → checkDevices t b ≡ Accepted → Joined p t a b (largerOf a b)
+pub joined : (p t : Bytes) (a b : Column) → IsValid t a → IsValid t b → Joined p t a b (largerOf a b)
 joined p t a b ha hb =
     let va = valid-devices t a ha in
     let vb = valid-devices t b hb in

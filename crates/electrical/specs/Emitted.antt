@@ -1,5 +1,6 @@
 -- Device columns, and the levels that the rows of a table emit with one.
 -- Assumes nothing.
+use mathlib.Core.Path.{_≡_}
 use mathlib.Core.Bool.{Bool, cond, not, _||_}
 use mathlib.Core.List.{[], _∷_}
 use Prim.Native.Nat.{ℕ, min}
@@ -30,6 +31,10 @@ isBadDevice t d i = not (goodDevice (kindOf t i) (row d i))
 -- 6 bad state: "device column .. of wrong length or value"; "in 6 length before value"
 unfoldable pub checkDevices : Bytes → Column → Checked
 checkDevices t d = refuseUnless 6 (eqb (length d) (rows t)) (refuseAt 6 0 (firstFrom (isBadDevice t d) (rows t) 0) Accepted)
+
+-- "a device column of it is valid if none falls on the column"
+abbrev pub IsValid : Bytes → Column → Type 0
+IsValid t d = checkDevices t d ≡ Accepted
 
 -- ---- emitted levels
 

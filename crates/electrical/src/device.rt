@@ -67,7 +67,7 @@ pub fn check_devices(profile: &[u8], table: &[u8], devices: &[u8]) -> Checked
 }
 
 // Whether each of the three output columns has one entry a row.
-fn good_columns(table: &[u8], signal: usize, weak: usize, strong: usize) -> bool
+pub fn good_columns(table: &[u8], signal: usize, weak: usize, strong: usize) -> bool
     ensures { λ r. ⌜ r ≡ goodColumns (now (table .entry)) signal weak strong ⌝ }
 {
     let rows = rows(table);

@@ -12,6 +12,11 @@ use Rattle.blocks.specs.Profile.{propertiesOf}
 use Rattle.places.specs.declared.Pos.{Pos}
 use Rattle.places.specs.declared.Place.{Place}
 use Rattle.places.specs.declared.Place.the-variants.{There, Nowhere}
+use Rattle.connectivity.specs.declared.Sides.{Sides}
+use Rattle.connectivity.specs.declared.Sides.the-variants.{Both, Neither}
+use Rattle.connectivity.specs.Ports.{repeaterInputPos, repeaterOutputPos, comparatorInputPos, comparatorOutputPos, deviceSidePositions}
+use Rattle.wire.specs.declared.transfer.DustTransfer.{DustTransfer}
+use Rattle.wire.specs.declared.transfer.DustTransfer.the-variants.{Horizontal, Rise, FallThroughConductor, NoTransfer}
 use Rattle.world.specs.declared.traits.BlockRedstoneTraits.{BlockRedstoneTraits}
 
 -- the row found, or the largest number of 64 bits
@@ -49,3 +54,25 @@ placeCoordinate Nowhere axis = pos 2
 -- a number above 6 is no facing
 abbrev pub knownFacing : ℕ → ℕ
 knownFacing n = cond (leb n 6) n 0
+
+abbrev pub isThere : Place → ℕ
+isThere (There q) = 1
+isThere Nowhere = 0
+
+abbrev pub sideOf : Sides → Bool → Place
+sideOf (Both a b) first = cond first (There a) (There b)
+sideOf Neither first = Nowhere
+
+-- the position functions by number
+unfoldable pub portOf : Bytes → Pos → ℕ → Place
+portOf t q which =
+    cond (eqb which 0) (repeaterInputPos t q)
+    (cond (eqb which 1) (repeaterOutputPos t q)
+    (cond (eqb which 2) (comparatorInputPos t q)
+    (cond (eqb which 3) (comparatorOutputPos t q) (sideOf (deviceSidePositions t q) (eqb which 4)))))
+
+abbrev pub transferNumber : DustTransfer → ℕ
+transferNumber NoTransfer = 0
+transferNumber Horizontal = 1
+transferNumber Rise = 2
+transferNumber FallThroughConductor = 3

@@ -11,7 +11,10 @@ ghost use Rattle.world.specs.Traits.{traits};
 ghost use Rattle.world.specs.Names.{shapeOfName};
 ghost use Rattle.refusals.specs.Check.{checkInput, answerOf};
 ghost use Rattle.supports.specs.Supports.{Listed};
-ghost use Rattle.probe.specs.Numbers.{rowNumber, kindProperties, traitsNumber, coordinate, placeCoordinate, knownFacing};
+ghost use Rattle.wire.specs.Arms.{componentConnects, inferWireConnection, resolvedWireConnection};
+ghost use Rattle.wire.specs.Transfer.{dustTransfer};
+ghost use Rattle.redraw.specs.Redraw.{Redraws};
+ghost use Rattle.probe.specs.Numbers.{rowNumber, kindProperties, traitsNumber, coordinate, placeCoordinate, knownFacing, isThere, portOf, transferNumber, bit};
 
 // 0, or the refusal that falls on a profile and a table.
 #[no_mangle]
@@ -85,4 +88,95 @@ pub extern "C" fn probe_horizontal_offset(facing: u32, axis: u32) -> i32
     ensures { λ r. ⌜ r ≡ placeCoordinate (horizontalOffset (knownFacing facing)) axis ⌝ }
 {
     numbers::place_coordinate(numbers::facing_of(facing).horizontal_offset(), axis)
+}
+
+// 1 if there is such a position, else 0: 0 repeater input, 1 repeater output, 2 comparator input, 3 comparator output, 4 and 5 the sides.
+#[no_mangle]
+pub extern "C" fn probe_port(table: &[u8], x: i32, y: i32, z: i32, which: u32) -> u32
+    ensures { λ r. ⌜ r ≡ isThere (portOf (now (table .entry)) (cell x y z) which) ⌝ }
+{
+    numbers::is_there(numbers::port_of(table, Pos::new(x, y, z), which))
+}
+
+#[no_mangle]
+pub extern "C" fn probe_port_coordinate(
+    table: &[u8],
+    x: i32,
+    y: i32,
+    z: i32,
+    which: u32,
+    axis: u32,
+) -> i32
+    ensures { λ r. ⌜ r ≡ placeCoordinate (portOf (now (table .entry)) (cell x y z) which) axis ⌝ }
+{
+    numbers::place_coordinate(numbers::port_of(table, Pos::new(x, y, z), which), axis)
+}
+
+#[no_mangle]
+pub extern "C" fn probe_component_connects(table: &[u8], x: i32, y: i32, z: i32, facing: u32) -> u32
+    ensures { λ r. ⌜ r ≡ bit (componentConnects (now (table .entry)) (cell x y z) (knownFacing facing)) 1 ⌝ }
+{
+    let code = numbers::facing_of(facing).code;
+    numbers::bit(
+        wire::arms::component_connects(table, Pos::new(x, y, z), code),
+        1,
+    )
+}
+
+#[no_mangle]
+pub extern "C" fn probe_infer(
+    profile: &[u8],
+    table: &[u8],
+    x: i32,
+    y: i32,
+    z: i32,
+    facing: u32,
+) -> u32
+    ensures { λ r. ⌜ r ≡ inferWireConnection (now (profile .entry)) (now (table .entry)) (cell x y z) (knownFacing facing) ⌝ }
+{
+    let code = numbers::facing_of(facing).code;
+    wire::arms::infer_wire_connection(profile, table, Pos::new(x, y, z), code) as u32
+}
+
+#[no_mangle]
+pub extern "C" fn probe_resolved(
+    profile: &[u8],
+    table: &[u8],
+    x: i32,
+    y: i32,
+    z: i32,
+    facing: u32,
+) -> u32
+    ensures { λ r. ⌜ r ≡ resolvedWireConnection (now (profile .entry)) (now (table .entry)) (cell x y z) (knownFacing facing) ⌝ }
+{
+    let code = numbers::facing_of(facing).code;
+    wire::arms::resolved_wire_connection(profile, table, Pos::new(x, y, z), code) as u32
+}
+
+#[no_mangle]
+pub extern "C" fn probe_transfer(
+    profile: &[u8],
+    table: &[u8],
+    x: i32,
+    y: i32,
+    z: i32,
+    x2: i32,
+    y2: i32,
+    z2: i32,
+) -> u32
+    ensures { λ r. ⌜ r ≡ transferNumber (dustTransfer (now (profile .entry)) (now (table .entry)) (cell x y z) (cell x2 y2 z2)) ⌝ }
+{
+    numbers::transfer_number(wire::transfer::dust_transfer(
+        profile,
+        table,
+        Pos::new(x, y, z),
+        Pos::new(x2, y2, z2),
+    ))
+}
+
+#[no_mangle]
+pub extern "C" fn probe_redraw(profile: &[u8], table: &mut [u8]) -> u32
+    ensures { λ r. ⌜ Redraws (now (profile .entry)) (now (table .entry)) (now (table .exit)) r ⌝ }
+{
+    redraw::update_wire_shapes(profile, table)
 }

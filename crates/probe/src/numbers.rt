@@ -1,14 +1,16 @@
 // Enums, structs and bools as numbers.
 use blocks::BlockProperties;
 use columns::Found;
+use connectivity::Sides;
 use places::Facing;
 use places::Place;
 use places::Pos;
+use wire::transfer::DustTransfer;
 use world::traits::BlockRedstoneTraits;
 ghost use mathlib.Core.Path.{_≡_};
 ghost use Prim.Native.Nat.{_≤_};
 ghost use lib.IntN.{ℤ};
-ghost use Rattle.probe.specs.Numbers.{rowNumber, bit, propertiesNumber, traitsNumber, coordinate, placeCoordinate, knownFacing};
+ghost use Rattle.probe.specs.Numbers.{rowNumber, bit, propertiesNumber, traitsNumber, coordinate, placeCoordinate, knownFacing, isThere, sideOf, portOf, transferNumber};
 
 pub fn row_number(found: Found) -> u64
     ensures { λ r. ⌜ r ≡ rowNumber found ⌝ }
@@ -19,7 +21,7 @@ pub fn row_number(found: Found) -> u64
     }
 }
 
-fn bit(b: bool, value: u32) -> u32
+pub fn bit(b: bool, value: u32) -> u32
     ensures { λ r. ⌜ (r ≡ bit b value) × (r ≤ value) ⌝ }
 {
     if b { value } else { 0 }
@@ -79,4 +81,50 @@ pub fn facing_of(number: u32) -> Facing
         return Facing { code: 0 };
     }
     Facing { code: number as u8 }
+}
+
+pub fn is_there(place: Place) -> u32
+    ensures { λ r. ⌜ r ≡ isThere place ⌝ }
+{
+    match place {
+        Place::There(_) => 1,
+        Place::Nowhere => 0,
+    }
+}
+
+// The first or the second of the sides.
+fn side_of(sides: Sides, first: bool) -> Place
+    ensures { λ r. ⌜ r ≡ sideOf sides first ⌝ }
+{
+    let Sides::Both(a, b) = sides else {
+        return Place::Nowhere;
+    };
+    if first {
+        return Place::There(a);
+    }
+    Place::There(b)
+}
+
+pub fn port_of(table: &[u8], pos: Pos, which: u32) -> Place
+    ensures { λ r. ⌜ r ≡ portOf (now (table .entry)) pos which ⌝ }
+{
+    match which {
+        0 => connectivity::repeater_input_pos(table, pos),
+        1 => connectivity::repeater_output_pos(table, pos),
+        2 => connectivity::comparator_input_pos(table, pos),
+        3 => connectivity::comparator_output_pos(table, pos),
+        4 => side_of(connectivity::device_side_positions(table, pos), true),
+        _ => side_of(connectivity::device_side_positions(table, pos), false),
+    }
+}
+
+pub fn transfer_number(transfer: DustTransfer) -> u32
+    ensures { λ r. ⌜ r ≡ transferNumber transfer ⌝ }
+{
+    match transfer {
+        DustTransfer::NoTransfer => 0,
+        DustTransfer::Horizontal => 1,
+        DustTransfer::Rise => 2,
+        DustTransfer::FallThroughConductor => 3,
+    }
 }

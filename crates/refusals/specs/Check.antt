@@ -1,5 +1,6 @@
 -- Which refusal falls on a call, and what the call answers and writes then.
 -- Assumes nothing.
+use mathlib.Core.Path.{_≡_}
 use mathlib.Core.Bool.{Bool, true, false, not}
 use Prim.Native.Nat.{ℕ, _+_, _*_, _-_, _%_}
 use lib.ListN.{length}
@@ -57,6 +58,10 @@ checkTable t = refuseUnless 2 (eqb (length t % 32) 0) (refuseUnless 3 (leb (rows
 -- 1 profile, and then the table: "Tested in this order"
 unfoldable pub checkInput : Bytes → Bytes → Checked
 checkInput p t = refuseUnless 1 (goodProfile p) (checkTable t)
+
+-- "A table is accepted if no refusal falls on it or on the profile the call has"
+abbrev pub IsAccepted : Bytes → Bytes → Type 0
+IsAccepted p t = checkInput p t ≡ Accepted
 
 -- ---- what a call answers and writes
 

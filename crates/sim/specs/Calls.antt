@@ -13,8 +13,7 @@ use Rattle.world.specs.Find.{find}
 use Rattle.refusals.specs.declared.Checked.{Checked}
 use Rattle.refusals.specs.Check.{orElse, also, checkInput, answerOf, written}
 use Rattle.electrical.specs.Answer.{roundsOf, settled, goodColumns, Columns}
-use Rattle.sim.specs.State.{devicesOf, checkState}
-use Rattle.sim.specs.Fresh.{freshDevices, freshState}
+use Rattle.sim.specs.State.{devicesOf, checkState, freshDevices, freshState}
 use Rattle.sim.specs.Tick.{ticks}
 
 -- ---- fresh

@@ -1,4 +1,3 @@
 pub mod State
-pub mod Fresh
 pub mod Tick
 pub mod Calls

@@ -1,98 +1,28 @@
--- The state of a simulation: "16 bytes a row", each field by its name.
+-- The state of a simulation: sixteen bytes a row, its device column, which states are valid, and the fresh one.
 -- Assumes nothing.
-use mathlib.Core.Bool.{Bool, cond, not, _&&_, _||_}
-use Prim.Native.Nat.{ℕ, zero, suc, _+_, _*_, _/_, _%_, _^_, min, max}
-use lib.ListN.{length, getD}
-use lib.Dec.{eqb, leb, ltb}
-use Rattle.columns.specs.Column.{Bytes, Column, tabulate, part}
-use Rattle.columns.specs.First.{firstFrom, allBelow}
-use Rattle.blocks.specs.Kind.{RedstoneTorch, Repeater, RedstoneLamp}
-use Rattle.world.specs.Rows.{rows, kindOf, delayOr}
+use mathlib.Core.Bool.{Bool, not}
+use Prim.Native.Nat.{ℕ, _*_}
+use lib.ListN.{length}
+use lib.Dec.{eqb}
+use Rattle.columns.specs.Column.{Bytes, Column, tabulate, part, joined}
+use Rattle.columns.specs.First.{firstFrom}
+use Rattle.world.specs.Rows.{rows}
 use Rattle.refusals.specs.declared.Checked.{Checked}
 use Rattle.refusals.specs.declared.Checked.the-variants.{Accepted}
 use Rattle.refusals.specs.Check.{refuseUnless, refuseAt}
-use Rattle.electrical.specs.Emitted.{goodDevice}
+use Rattle.electrical.specs.Answer.{settled}
+use Rattle.devices.specs.Row.{deviceOf, goodState}
+use Rattle.devices.specs.Fresh.{freshDevice, freshRow}
 
 -- the sixteen bytes of row i
 abbrev pub sixteen : Bytes → ℕ → Bytes
 sixteen st i = part 16 st i
 
--- ---- the fields of a row's sixteen bytes r
-
--- 0: "device byte"
-abbrev pub deviceOf : Bytes → ℕ
-deviceOf r = getD r 0 0
-
--- 1: "repeater queue, oldest at bit 0"
-abbrev pub queueOf : Bytes → ℕ
-queueOf r = getD r 1 0
-
--- 2: "lamp lit 0/1"
-abbrev pub litOf : Bytes → ℕ
-litOf r = getD r 2 0
-
--- 3: "ticks left until a dark lamp goes out"
-abbrev pub leftOf : Bytes → ℕ
-leftOf r = getD r 3 0
-
--- 4-7: "torch toggles, low byte first, bit j for a toggle j ticks ago"
-abbrev pub togglesOf : Bytes → ℕ
-togglesOf r = getD r 4 0 + getD r 5 0 * 256 + getD r 6 0 * 65536 + getD r 7 0 * 16777216
-
--- 8: "candidate 0/1"
-abbrev pub candidateOf : Bytes → ℕ
-candidateOf r = getD r 8 0
-
--- ---- the state of a table
-
 -- the device column of a state
 unfoldable pub devicesOf : Bytes → Bytes → Column
 devicesOf t st = tabulate (rows t) (λ i. deviceOf (sixteen st i))
 
--- "delay 1 if missing and clamped to 1-4"
-unfoldable pub delayOf : Bytes → ℕ → ℕ
-delayOf t i = min 4 (max 1 (delayOr t i 1))
-
--- the number of bits set among the low n
-unfoldable pub bitsSet : ℕ → ℕ → ℕ
-bitsSet zero w = 0
-bitsSet (suc n) w = w % 2 + bitsSet n (w / 2)
-
--- "eight or more toggle bits are set"
-unfoldable pub isCandidate : ℕ → Bool
-isCandidate toggles = leb 8 (bitsSet 31 toggles)
-
 -- ---- valid states
-
-module _ (t : Bytes) (i : ℕ) (r : Bytes) where
-  -- "one bit per tick of delay, bit 0 equal to byte 0"; "Bytes of another kind's device are 0"
-  unfoldable pub goodQueue : Bool
-  goodQueue =
-      cond (eqb (kindOf t i) Repeater)
-      (ltb (queueOf r) (2 ^ delayOf t i) && eqb (queueOf r % 2) (deviceOf r))
-      (eqb (queueOf r) 0)
-
-  -- "lamp lit 0/1"; "ticks left .., 0-2, 0 if unlit"
-  unfoldable pub goodLamp : Bool
-  goodLamp =
-      cond (eqb (kindOf t i) RedstoneLamp)
-      (leb (litOf r) 1 && leb (leftOf r) (2 * litOf r))
-      (eqb (litOf r) 0 && eqb (leftOf r) 0)
-
-  -- "j from 0 to 30"; "candidate 0/1, 1 where eight or more toggle bits are set"
-  unfoldable pub goodTorch : Bool
-  goodTorch =
-      cond (eqb (kindOf t i) RedstoneTorch)
-      (ltb (togglesOf r) (2 ^ 31) && (leb (candidateOf r) 1 && (eqb (candidateOf r) 1 || not (isCandidate (togglesOf r)))))
-      (eqb (togglesOf r) 0 && eqb (candidateOf r) 0)
-
-  -- "the rest 0"
-  abbrev pub goodRest : Bool
-  goodRest = allBelow (λ k. eqb (getD r (9 + k) 0) 0) 7
-
-  -- the sixteen bytes r of row i are within the layout
-  unfoldable pub goodState : Bool
-  goodState = goodDevice (kindOf t i) (deviceOf r) && (goodQueue && (goodLamp && (goodTorch && goodRest)))
 
 abbrev pub isBadState : Bytes → Bytes → ℕ → Bool
 isBadState t st i = not (goodState t i (sixteen st i))
@@ -100,3 +30,11 @@ isBadState t st i = not (goodState t i (sixteen st i))
 -- 6 bad state: "state of wrong length or value"; "in 6 length before value"
 unfoldable pub checkState : Bytes → Bytes → Checked
 checkState t st = refuseUnless 6 (eqb (length st) (rows t * 16)) (refuseAt 6 0 (firstFrom (isBadState t st) (rows t) 0) Accepted)
+
+-- ---- the fresh state: `RedstoneTickSimulator::new`
+
+unfoldable pub freshDevices : Bytes → Column
+freshDevices t = tabulate (rows t) (freshDevice t)
+
+unfoldable pub freshState : Bytes → Bytes → Bytes
+freshState p t = let s = settled p t (freshDevices t) in joined (rows t) (freshRow t s)

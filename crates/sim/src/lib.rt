@@ -1,1 +1,3 @@
-// The tick simulator over a packed state of sixteen bytes a row.
+// The tick simulator: `RedstoneTickSimulator`, over a state of sixteen bytes a row.
+pub mod check;
+mod state;

@@ -12,7 +12,7 @@ use Rattle.columns.specs.Column.{Bytes}
 use Rattle.columns.specs.First.{firstFrom, onFound}
 use Rattle.places.specs.declared.Pos.{Pos}
 use Rattle.places.specs.Places.{horizontals, opposite, beside, above, below, samePos}
-use Rattle.world.specs.Rows.{rows, byteOf, wordOf, posOf, kindOf, facingOf, shapeOf, storedArm}
+use Rattle.world.specs.Rows.{rows, byteOf, wordOf, posOf, kindOf, facingOf, storedArm}
 use Rattle.world.specs.Find.{find, kindAt}
 use Rattle.world.specs.Traits.{nothing, traits, traitsAt}
 use Rattle.wire.specs.Arms.{connects, componentConnects, joins, rises, drops, inferPast, inferWireConnection, armOf, hasArm}

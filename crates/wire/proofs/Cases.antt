@@ -22,7 +22,7 @@ use Rattle.wire.specs.declared.transfer.DustTransfer.{DustTransfer}
 use Rattle.wire.specs.declared.transfer.DustTransfer.the-variants.{Rise, FallThroughConductor, NoTransfer}
 
 -- a row at (x, y, 0) of a kind and a shape, "fields not named 0"
-abbrev block : ℕ → ℕ → ℕ → ℕ → Bytes
+abbrev pub block : ℕ → ℕ → ℕ → ℕ → Bytes
 block kind shape x y = x ∷ 0 ∷ 0 ∷ 0 ∷ y ∷ replicate 7 0 ++ kind ∷ replicate 15 0 ++ shape ∷ 0 ∷ 0 ∷ 0 ∷ []
 
 abbrev low : Pos

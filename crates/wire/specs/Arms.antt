@@ -17,7 +17,8 @@ use Rattle.world.specs.Traits.{traitsAt, ArmNone, ArmSide, isArm}
 -- "Lever, button, plate, torch and redstone block connect; repeater and comparator only along their facing": row i, along f
 unfoldable pub connects : Bytes → ℕ → ℕ → Bool
 connects t f i =
-    isSource (kindOf t i) || (isDiode (kindOf t i) && (eqb (facingOf t i) f || eqb (facingOf t i) (opposite f)))
+    isSource (kindOf t i)
+    || (isDiode (kindOf t i) && (not (eqb (facingOf t i) 0) && (eqb (facingOf t i) f || eqb (facingOf t i) (opposite f))))
 
 -- what stands at q connects to dust along f
 unfoldable pub componentConnects : Bytes → Pos → ℕ → Bool

@@ -30,14 +30,14 @@ pub fn is_diode(kind: u8) -> bool
     (kind == kind::REPEATER) | (kind == kind::COMPARATOR)
 }
 
-// Whether a row connects to dust along a facing: a repeater or comparator at both its ends.
+// Whether a row connects to dust along a facing: a repeater or comparator at both its ends, and never one without a facing.
 fn connects(table: &[u8], row: usize, facing: u8) -> bool
     ensures { λ r. ⌜ r ≡ connects (now (table .entry)) facing row ⌝ }
 {
     let kind = row::kind_of(table, row);
     let own = row::facing_of(table, row);
     let back = Facing { code: facing }.opposite();
-    is_source(kind) | (is_diode(kind) & ((own == facing) | (own == back.code)))
+    is_source(kind) | (is_diode(kind) & ((own != 0) & ((own == facing) | (own == back.code))))
 }
 
 pub fn component_connects(table: &[u8], pos: Pos, facing: u8) -> bool

@@ -1,3 +1,3 @@
-// Dust: its arms, how power goes from dust to dust, and the arms drawn anew.
+// Dust: its arms, and how power goes from dust to dust.
 pub mod arms;
 pub mod transfer;

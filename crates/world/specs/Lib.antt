@@ -1,4 +1,5 @@
 pub mod Rows
 pub mod Find
+pub mod Shapes
 pub mod Traits
 pub mod Names

@@ -6,6 +6,7 @@ use Prim.Native.Nat.{ℕ, _-_}
 use lib.ListN.{length, drop}
 use lib.Dec.{leb}
 use Rattle.columns.specs.Column.{Bytes, same}
+use Rattle.world.specs.Shapes.{Plain, BottomSlab, TopSlab, DoubleSlab, BottomStairs, TopStairs, Glass}
 
 abbrev pub endsWith : Bytes → Bytes → Bool
 endsWith end s = leb (length end) (length s) && same (drop (length s - length end) s) end
@@ -37,11 +38,11 @@ double = 100 ∷ 111 ∷ 117 ∷ 98 ∷ 108 ∷ 101 ∷ []
 
 -- "`type` top, double, else bottom"
 abbrev pub slabShape : Bytes → ℕ
-slabShape type = cond (same type top) 2 (cond (same type double) 3 1)
+slabShape type = cond (same type top) TopSlab (cond (same type double) DoubleSlab BottomSlab)
 
 -- "`half` top, else bottom"
 abbrev pub stairsShape : Bytes → ℕ
-stairsShape half = cond (same half top) 5 4
+stairsShape half = cond (same half top) TopStairs BottomStairs
 
 -- "`minecraft:glass` or `minecraft:tinted_glass`"
 abbrev pub isGlass : Bytes → Bool
@@ -51,4 +52,4 @@ isGlass name = same name clear || same name tinted
 unfoldable pub shapeOfName : Bytes → Bytes → Bytes → ℕ
 shapeOfName name type half =
     cond (endsWith slab name) (slabShape type)
-    (cond (endsWith stairs name) (stairsShape half) (cond (isGlass name) 6 0))
+    (cond (endsWith stairs name) (stairsShape half) (cond (isGlass name) Glass Plain))

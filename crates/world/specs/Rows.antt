@@ -65,9 +65,13 @@ supportOf t i =
 abbrev pub hasStoredArms : Bytes → ℕ → Bool
 hasStoredArms t i = eqb (byteOf t i 23) 1
 
--- 24-27: the stored entry of the arm along a horizontal facing, 0 where there is none
+-- 24-27: "North, East, South, West: 0 no entry, 1 None, 2 Side, 3 Up", and no entry along another facing
+unfoldable pub armEntry : Bytes → ℕ → ℕ → ℕ
+armEntry t i f = cond (isHorizontal f) (byteOf t i (23 + f)) 0
+
+-- the stored entry of the arm along a facing, 0 where there is none
 unfoldable pub storedArm : Bytes → ℕ → ℕ → ℕ
-storedArm t i f = cond (isHorizontal f) (byteOf t i (23 + f)) 0
+storedArm t i f = cond (hasStoredArms t i) (armEntry t i f) 0
 
 -- 28: the shape
 abbrev pub shapeOf : Bytes → ℕ → ℕ

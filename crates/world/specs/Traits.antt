@@ -12,6 +12,7 @@ use Rattle.columns.specs.First.{onFound}
 use Rattle.world.specs.declared.traits.BlockRedstoneTraits.{BlockRedstoneTraits}
 use Rattle.world.specs.Rows.{kindOf, shapeOf}
 use Rattle.world.specs.Find.{find}
+use Rattle.world.specs.Shapes.{Plain, TopSlab, DoubleSlab, TopStairs, Glass}
 
 -- an arm, and a rise: "1 None, 2 Side, 3 Up" (`WireConnection` of the original)
 abbrev pub ArmNone : ℕ
@@ -59,11 +60,11 @@ plain p k =
 
 -- "1 bottom slab, 2 top slab, 3 double slab, 4 bottom stairs, 5 top stairs, 6 glass"
 unfoldable pub ofShape : ℕ → BlockRedstoneTraits
-ofShape s = cond (oneOf (2 ∷ 5 ∷ []) s) topHalf (cond (eqb s 3) doubleSlab (cond (eqb s 6) glass nothing))
+ofShape s = cond (oneOf (TopSlab ∷ TopStairs ∷ []) s) topHalf (cond (eqb s DoubleSlab) doubleSlab (cond (eqb s Glass) glass nothing))
 
 -- the traits of row i, under the profile p: "Other shapes replace all of them"
 unfoldable pub traits : Bytes → Bytes → ℕ → BlockRedstoneTraits
-traits p t i = cond (eqb (shapeOf t i) 0) (plain p (kindOf t i)) (ofShape (shapeOf t i))
+traits p t i = cond (eqb (shapeOf t i) Plain) (plain p (kindOf t i)) (ofShape (shapeOf t i))
 
 -- the traits of what stands at q
 unfoldable pub traitsAt : Bytes → Bytes → Pos → BlockRedstoneTraits

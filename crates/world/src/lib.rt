@@ -2,5 +2,6 @@
 pub mod find;
 pub mod name;
 pub mod row;
+pub mod shape;
 pub mod signal;
 pub mod traits;

@@ -1,4 +1,5 @@
 // The shape of a block by its name. A name is never refused.
+use crate::shape;
 ghost use mathlib.Core.Path.{_≡_};
 ghost use Rattle.world.specs.Names.{endsWith, slabShape, stairsShape, isGlass, shapeOfName};
 
@@ -17,12 +18,12 @@ fn slab_shape(slab_type: &[u8]) -> u8
     ensures { λ r. ⌜ r ≡ slabShape (now («slab_type» .entry)) ⌝ }
 {
     if columns::same(slab_type, b"top") {
-        return 2;
+        return shape::TOP_SLAB;
     }
     if columns::same(slab_type, b"double") {
-        return 3;
+        return shape::DOUBLE_SLAB;
     }
-    1
+    shape::BOTTOM_SLAB
 }
 
 // The shape of stairs, by their block state's half.
@@ -30,9 +31,9 @@ fn stairs_shape(half: &[u8]) -> u8
     ensures { λ r. ⌜ r ≡ stairsShape (now (half .entry)) ⌝ }
 {
     if columns::same(half, b"top") {
-        return 5;
+        return shape::TOP_STAIRS;
     }
-    4
+    shape::BOTTOM_STAIRS
 }
 
 fn is_glass(name: &[u8]) -> bool
@@ -52,7 +53,7 @@ pub fn shape_of_name(name: &[u8], slab_type: &[u8], half: &[u8]) -> u8
         return stairs_shape(half);
     }
     if is_glass(name) {
-        return 6;
+        return shape::GLASS;
     }
-    0
+    shape::PLAIN
 }

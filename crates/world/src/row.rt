@@ -7,7 +7,7 @@ ghost use Prim.Native.Nat.{_+_, _*_, _<_};
 ghost use lib.ListN.{getD};
 ghost use lib.IntN.{ℤ};
 ghost use Rattle.places.specs.Signed.{signed32, signed8};
-ghost use Rattle.world.specs.Rows.{rows, byteOf, givenOr, wordOf, posOf, kindOf, facingOf, poweredOf, isPowered, levelOr, delayOr, supportOf, hasStoredArms, storedArm, shapeOf, isSubtract};
+ghost use Rattle.world.specs.Rows.{rows, byteOf, givenOr, wordOf, posOf, kindOf, facingOf, poweredOf, isPowered, levelOr, delayOr, supportOf, hasStoredArms, armEntry, storedArm, shapeOf, isSubtract};
 
 pub const WIDTH: usize = 32;
 
@@ -151,9 +151,9 @@ pub fn has_stored_arms(table: &[u8], row: usize) -> bool
     byte_of(table, row, 23) == 1
 }
 
-// The stored entry of the arm along a horizontal facing: 0 no entry, 1 None, 2 Side, 3 Up. Along any other facing there is none.
-pub fn stored_arm(table: &[u8], row: usize, facing: u8) -> u8
-    ensures { λ r. ⌜ r ≡ storedArm (now (table .entry)) row facing ⌝ }
+// The entry along a horizontal facing: 0 no entry, 1 None, 2 Side, 3 Up. Along any other facing there is none.
+fn arm_entry(table: &[u8], row: usize, facing: u8) -> u8
+    ensures { λ r. ⌜ r ≡ armEntry (now (table .entry)) row facing ⌝ }
 {
     if facing < Facing::NORTH {
         return 0;
@@ -162,6 +162,16 @@ pub fn stored_arm(table: &[u8], row: usize, facing: u8) -> u8
         return 0;
     }
     byte_of(table, row, 23 + (facing as usize))
+}
+
+// The stored entry of the arm along a facing, 0 where there is none.
+pub fn stored_arm(table: &[u8], row: usize, facing: u8) -> u8
+    ensures { λ r. ⌜ r ≡ storedArm (now (table .entry)) row facing ⌝ }
+{
+    if has_stored_arms(table, row) {
+        return arm_entry(table, row, facing);
+    }
+    0
 }
 
 pub fn shape_of(table: &[u8], row: usize) -> u8

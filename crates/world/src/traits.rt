@@ -1,6 +1,7 @@
 // What a block does to redstone, by its kind's profile and its shape.
 use crate::find::find;
 use crate::row;
+use crate::shape;
 use columns::Found;
 use places::Pos;
 ghost use mathlib.Core.Path.{_≡_};
@@ -81,7 +82,7 @@ fn nothing() -> BlockRedstoneTraits
     }
 }
 
-// The traits of a shape that is not plain.
+// The traits of a shape that is not plain: 2 top slab, 5 top stairs, 3 double slab, 6 glass.
 fn of_shape(shape: u8) -> BlockRedstoneTraits
     ensures { λ r. ⌜ r ≡ ofShape shape ⌝ }
 {
@@ -119,7 +120,7 @@ pub fn redstone_traits(profile: &[u8], table: &[u8], row: usize) -> BlockRedston
     ensures { λ r. ⌜ r ≡ traits (now (profile .entry)) (now (table .entry)) row ⌝ }
 {
     let shape = row::shape_of(table, row);
-    if shape == 0 {
+    if shape == shape::PLAIN {
         return plain(profile, row::kind_of(table, row));
     }
     of_shape(shape)

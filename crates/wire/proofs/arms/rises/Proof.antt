@@ -1,7 +1,9 @@
 -- `wire::arms::rises` meets its contract. Assumes nothing.
-use mathlib.Core.Path.{sym, _∙_}
+use mathlib.Core.Path.{ap₂}
+use mathlib.Core.Bool.{not, _&&_}
 use borrow.Author.Tests.{eq-eqb, ne-eqb}
 use borrow.Author.Needs.{needs}
+use Rattle.blocks.specs.Kind.{isDust}
 use Rattle.wire.specs.Arms.{rises}
 use Rattle.wire.proofs.arms.rises.Statement.{statement}
 use Rattle.wire.proofs.arms.rises.Tie as tie
@@ -28,7 +30,8 @@ traits-at-requires-2 c κs = search needs
 returns-2 : tie.Need-returns-2
 unfolding rises
 returns-2 c =
-    rw (← c .before .before .before .before .before .before .before .traits-at .ensures, ne-eqb _ 1 (c .before .before .before .before .before .if1 .left)) (cc)
+    rw (← c .before .before .before .before .before .before .before .traits-at .ensures, ne-eqb _ 1 (c .before .before .before .before .before .if1 .left), ← c .before .before .before .before .above .ensures, ← c .before .before .above2 .ensures)
+    (ap₂ (λ k r. isDust k && not (r .blocks)) (c .before .before .before .kind-at .ensures) (c .before .traits-at2 .ensures))
 
 pub rises-spec : {M : Type 1} → statement M
 rises-spec =

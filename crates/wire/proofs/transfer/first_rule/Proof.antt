@@ -5,6 +5,7 @@ use Prim.Native.Nat.{_+_, _-_, _≤_}
 use native.Mathlib.Omega.{arith}
 use borrow.Author.Needs.{needs}
 use Rattle.wire.specs.declared.transfer.DustTransfer.the-variants.{NoTransfer}
+use Rattle.wire.specs.Transfer.{fits}
 use Rattle.wire.proofs.Turns.{fromFacing, fromStep, enter, hit, miss, out, done}
 use Rattle.wire.proofs.transfer.first_rule.Statement.{statement}
 use Rattle.wire.proofs.transfer.first_rule.Tie as tie
@@ -47,7 +48,10 @@ heights-less c = omega arith
 heights-again : tie.Need-heights-again Inv-heights μ-heights Inv-facings μ-facings
 heights-again c =
     let l = c .before .before .before .heights in
-    (omega arith, omega arith, omega arith, l .inv .3, l .inv .4 ∙ miss _ _ _ _ _ (l .step) _ (omega arith) (sym (c .before .fits2 .ensures) ∙ c .if1 .left))
+    let o = c .before .before .before .before .before in
+    let a = o .before .before .before .args in
+    let e : fits (a .profile .now) (a .table .now) (a .j) (a .i) (o .facings .facing) (l .step) ≡ false = cc in
+    (omega arith, omega arith, omega arith, l .inv .3, l .inv .4 ∙ miss _ _ _ _ _ (l .step) _ (omega arith) e)
 
 add-facing : tie.Need-add-facing Inv-heights μ-heights Inv-facings μ-facings
 add-facing c = omega arith
@@ -67,9 +71,11 @@ returns c =
 
 returns-2 : tie.Need-returns-2 Inv-heights μ-heights Inv-facings μ-facings
 returns-2 c =
-    let t = c .before in
     let l = c .before .before .before .before .heights in
-    c .rule-of .ensures ∙ sym (l .inv .4 ∙ hit _ _ _ _ _ (l .step) _ (omega arith) (sym (t .before .fits2 .ensures) ∙ t .if1 .taken))
+    let o = c .before .before .before .before .before .before in
+    let a = o .before .before .before .args in
+    let e : fits (a .profile .now) (a .table .now) (a .j) (a .i) (o .facings .facing) (l .step) ≡ true = cc in
+    c .rule-of .ensures ∙ sym (l .inv .4 ∙ hit _ _ _ _ _ (l .step) _ (omega arith) e)
 
 pub first-rule-spec : {M : Type 1} → statement M
 first-rule-spec =

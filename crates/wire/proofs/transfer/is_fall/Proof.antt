@@ -1,6 +1,10 @@
 -- `wire::transfer::is_fall` meets its contract: the sink is where the test says, and then the block under the source is asked. Assumes nothing.
-use mathlib.Core.Path.{sym, _∙_}
+use mathlib.Core.Path.{_≡_, sym, ap₂, _∙_}
+use mathlib.Core.Bool.{_&&_}
 use borrow.Author.Needs.{needs}
+use Rattle.places.specs.Places.{samePos, beside, below}
+use Rattle.world.specs.Rows.{posOf}
+use Rattle.world.specs.Traits.{risesBy}
 use Rattle.wire.specs.Transfer.{isFall}
 use Rattle.wire.proofs.transfer.is_fall.Statement.{statement}
 use Rattle.wire.proofs.transfer.is_fall.Tie as tie
@@ -35,17 +39,19 @@ arm-of-requires c κs = search needs
 rises-by-requires : tie.Need-rises-by-requires
 rises-by-requires c κs = search needs
 
+-- the test asks whether the sink is below the cell beside
+sink : (c : tie.After-same) → samePos (below (beside (posOf (c .before .before .before .before .before .before .before .args .table .now) (c .before .before .before .before .before .before .before .args .j)) (c .before .before .before .before .before .before .before .args .facing))) (posOf (c .before .before .before .before .before .before .before .args .table .now) (c .before .before .before .before .before .before .before .args .i)) ≡ c .same .result
+sink c = rw (← c .before .before .before .before .pos-of .ensures, ← c .before .before .before .beside .ensures, ← c .before .before .below .ensures, ← c .before .pos-of2 .ensures) (sym (c .same .ensures))
+
 returns : tie.Need-returns
 unfolding isFall
 returns c =
-    let at = c .before .before .before .before .before .before .before in
-    rw (← at .before .before .before .before .pos-of .ensures, ← at .before .before .before .beside .ensures, ← at .before .before .below .ensures, ← at .before .pos-of2 .ensures, sym (at .same .ensures) ∙ c .before .before .before .before .before .before .if1 .taken) (cc)
+    rw (sink (c .before .before .before .before .before .before .before) ∙ c .before .before .before .before .before .before .if1 .taken, ← c .before .before .before .before .before .before .before .before .before .before .before .pos-of .ensures, ← c .before .before .before .before .before .below2 .ensures, ← c .before .before .before .opposite .ensures, c .before .rises-by .ensures)
+    (ap₂ (λ r m. r .drives && risesBy r m) (c .before .before .before .before .traits-at .ensures) (c .before .before .arm-of .ensures))
 
 returns-2 : tie.Need-returns-2
 unfolding isFall
-returns-2 c =
-    let at = c .before in
-    rw (← at .before .before .before .before .pos-of .ensures, ← at .before .before .before .beside .ensures, ← at .before .before .below .ensures, ← at .before .pos-of2 .ensures, sym (at .same .ensures) ∙ c .if1 .left)
+returns-2 c = rw (sink (c .before) ∙ c .if1 .left)
 
 pub is-fall-spec : {M : Type 1} → statement M
 is-fall-spec =

@@ -1,6 +1,9 @@
 -- `wire::transfer::is_level` meets its contract: the sink is where the test says, and then both arms are asked. Assumes nothing.
-use mathlib.Core.Path.{sym, _∙_}
+use mathlib.Core.Path.{_≡_, sym, ap₂, _∙_}
+use mathlib.Core.Bool.{_&&_}
 use borrow.Author.Needs.{needs}
+use Rattle.places.specs.Places.{samePos, beside}
+use Rattle.world.specs.Rows.{posOf}
 use Rattle.wire.specs.Transfer.{isLevel}
 use Rattle.wire.proofs.transfer.is_level.Statement.{statement}
 use Rattle.wire.proofs.transfer.is_level.Tie as tie
@@ -26,17 +29,18 @@ has-arm-requires c κs = search needs
 has-arm-requires-2 : tie.Need-has-arm-requires-2
 has-arm-requires-2 c κs = search needs
 
+-- the test asks whether the sink is beside
+sink : (c : tie.After-same) → samePos (beside (posOf (c .before .before .before .before .before .before .args .table .now) (c .before .before .before .before .before .before .args .j)) (c .before .before .before .before .before .before .args .facing)) (posOf (c .before .before .before .before .before .before .args .table .now) (c .before .before .before .before .before .before .args .i)) ≡ c .same .result
+sink c = rw (← c .before .before .before .pos-of .ensures, ← c .before .before .beside .ensures, ← c .before .pos-of2 .ensures) (sym (c .same .ensures))
+
 returns : tie.Need-returns
 unfolding isLevel
 returns c =
-    let at = c .before .before .before .before in
-    rw (← at .before .before .before .pos-of .ensures, ← at .before .before .beside .ensures, ← at .before .pos-of2 .ensures, sym (at .same .ensures) ∙ c .before .before .before .if1 .taken) (cc)
+    rw (sink (c .before .before .before .before) ∙ c .before .before .before .if1 .taken, ← c .before .before .opposite .ensures) (ap₂ _&&_ (c .before .has-arm .ensures) (c .has-arm2 .ensures))
 
 returns-2 : tie.Need-returns-2
 unfolding isLevel
-returns-2 c =
-    let at = c .before in
-    rw (← at .before .before .before .pos-of .ensures, ← at .before .before .beside .ensures, ← at .before .pos-of2 .ensures, sym (at .same .ensures) ∙ c .if1 .left)
+returns-2 c = rw (sink (c .before) ∙ c .if1 .left)
 
 pub is-level-spec : {M : Type 1} → statement M
 is-level-spec =

@@ -1,6 +1,9 @@
 -- `wire::transfer::is_rise` meets its contract: the sink is where the test says, and then the rise is asked. Assumes nothing.
-use mathlib.Core.Path.{sym, _∙_}
+use mathlib.Core.Path.{_≡_, sym, ap₂, _∙_}
 use borrow.Author.Needs.{needs}
+use Rattle.places.specs.Places.{samePos, beside, above}
+use Rattle.world.specs.Rows.{posOf}
+use Rattle.world.specs.Traits.{risesBy}
 use Rattle.wire.specs.Transfer.{isRise}
 use Rattle.wire.proofs.transfer.is_rise.Statement.{statement}
 use Rattle.wire.proofs.transfer.is_rise.Tie as tie
@@ -29,17 +32,19 @@ arm-of-requires c κs = search needs
 rises-by-requires : tie.Need-rises-by-requires
 rises-by-requires c κs = search needs
 
+-- the test asks whether the sink is above the cell beside
+sink : (c : tie.After-same) → samePos (above (beside (posOf (c .before .before .before .before .before .before .before .args .table .now) (c .before .before .before .before .before .before .before .args .j)) (c .before .before .before .before .before .before .before .args .facing))) (posOf (c .before .before .before .before .before .before .before .args .table .now) (c .before .before .before .before .before .before .before .args .i)) ≡ c .same .result
+sink c = rw (← c .before .before .before .before .pos-of .ensures, ← c .before .before .before .beside .ensures, ← c .before .before .above .ensures, ← c .before .pos-of2 .ensures) (sym (c .same .ensures))
+
 returns : tie.Need-returns
 unfolding isRise
 returns c =
-    let at = c .before .before .before .before in
-    rw (← at .before .before .before .before .pos-of .ensures, ← at .before .before .before .beside .ensures, ← at .before .before .above .ensures, ← at .before .pos-of2 .ensures, sym (at .same .ensures) ∙ c .before .before .before .if1 .taken) (cc)
+    rw (sink (c .before .before .before .before) ∙ c .before .before .before .if1 .taken, ← c .before .before .before .before .before .before .before .before .pos-of .ensures, ← c .before .before .before .before .before .before .before .beside .ensures, c .rises-by .ensures)
+    (ap₂ risesBy (c .before .before .traits-at .ensures) (c .before .arm-of .ensures))
 
 returns-2 : tie.Need-returns-2
 unfolding isRise
-returns-2 c =
-    let at = c .before in
-    rw (← at .before .before .before .before .pos-of .ensures, ← at .before .before .before .beside .ensures, ← at .before .before .above .ensures, ← at .before .pos-of2 .ensures, sym (at .same .ensures) ∙ c .if1 .left)
+returns-2 c = rw (sink (c .before) ∙ c .if1 .left)
 
 pub is-rise-spec : {M : Type 1} → statement M
 is-rise-spec =

@@ -1,30 +1,23 @@
 -- `world::row::stored_arm` meets its contract. Assumes nothing.
-use borrow.Author.Tests.{lt-leb, le-leb}
-use Rattle.world.specs.Rows.{storedArm}
-use Rattle.places.specs.Places.{North, West}
+use mathlib.Core.Path.{sym, _∙_}
 use borrow.Author.Needs.{needs}
+use Rattle.world.specs.Rows.{storedArm}
 use Rattle.world.proofs.row.stored_arm.Statement.{statement}
 use Rattle.world.proofs.row.stored_arm.Tie as tie
 
+has-stored-arms-requires : tie.Need-has-stored-arms-requires
+has-stored-arms-requires c κs = search needs
+
+arm-entry-requires : tie.Need-arm-entry-requires
+arm-entry-requires c κs = search needs
+
 returns : tie.Need-returns
 unfolding storedArm
-returns c = rw (lt-leb North (c .before .before .args .facing) (c .if1 .taken))
+returns c = rw (sym (c .before .before .has-stored-arms .ensures) ∙ c .before .if1 .taken) (c .arm-entry .ensures)
 
 returns-2 : tie.Need-returns-2
 unfolding storedArm
-returns-2 c = rw (le-leb North (c .before .before .before .args .facing) (c .before .if1 .left), lt-leb (c .before .before .before .args .facing) West (c .if2 .taken))
-
-add-byte-of : tie.Need-add-byte-of
-add-byte-of c = search needs
-
-byte-of-requires : tie.Need-byte-of-requires
-byte-of-requires c κs = search needs
-
-returns-3 : tie.Need-returns-3
-unfolding storedArm
-returns-3 c =
-    let f = c .before .before .before .before .args .facing in
-    rw (le-leb North f (c .before .before .if1 .left), le-leb f West (c .before .if2 .left)) (c .byte-of .ensures)
+returns-2 c = rw (sym (c .before .has-stored-arms .ensures) ∙ c .if1 .left)
 
 pub stored-arm-spec : {M : Type 1} → statement M
-stored-arm-spec = tie.close (tie.spec returns returns-2 add-byte-of byte-of-requires returns-3)
+stored-arm-spec = tie.close (tie.spec has-stored-arms-requires arm-entry-requires returns returns-2)

@@ -1,0 +1,56 @@
+// One row's sixteen bytes of state: whether they are valid, the fresh ones, and what a tick makes of them.
+mod comparator;
+pub mod fresh;
+mod lamp;
+mod level;
+mod repeater;
+pub mod row;
+mod torch;
+
+use blocks::kind;
+ghost use mathlib.Core.Path.{_≡_};
+ghost use lib.ListN.{length};
+ghost use Rattle.devices.specs.Fresh.{numbersOf, powersOf};
+ghost use Rattle.devices.specs.Step.{deviceRow, lampRow};
+
+// The device of a row, by its kind, from the old devices and the old settled columns. The row's own bytes are lent.
+pub fn device_step(
+    profile: &[u8],
+    table: &[u8],
+    devices: &[u8],
+    signal: &[u8],
+    weak: &[u8],
+    strong: &[u8],
+    row: usize,
+    sixteen: &mut [u8],
+)
+    requires { ⌜ length (now sixteen) ≡ 16 ⌝ }
+    ensures { λ _. ⌜ now (sixteen .exit) ≡ deviceRow (now (profile .entry)) (now (table .entry)) (now (devices .entry)) (numbersOf (now (signal .entry)) (now (weak .entry)) (now (strong .entry))) row (now (sixteen .entry)) ⌝ }
+{
+    let kind = world::row::kind_of(table, row);
+    if kind == kind::REPEATER {
+        repeater::repeater_step(profile, table, devices, signal, weak, strong, row, sixteen);
+        return;
+    }
+    if kind == kind::REDSTONE_TORCH {
+        torch::torch_step(profile, table, weak, strong, row, sixteen);
+        return;
+    }
+    if kind == kind::COMPARATOR {
+        sixteen[0] = comparator::next_comparator(table, signal, weak, strong, row);
+    }
+}
+
+// The lamp of a row, from the new settled power.
+pub fn lamp_step(table: &[u8], weak: &[u8], strong: &[u8], row: usize, sixteen: &mut [u8])
+    requires { ⌜ length (now sixteen) ≡ 16 ⌝ }
+    ensures { λ _. ⌜ now (sixteen .exit) ≡ lampRow (now (table .entry)) (powersOf (now (weak .entry)) (now (strong .entry))) row (now (sixteen .entry)) ⌝ }
+{
+    if world::row::kind_of(table, row) == kind::REDSTONE_LAMP {
+        let power = level::has_power(weak, strong, row);
+        let lit = sixteen[2];
+        let left = sixteen[3];
+        sixteen[2] = lamp::next_lit(power, lit, left);
+        sixteen[3] = lamp::next_left(power, lit, left);
+    }
+}

@@ -1,0 +1,205 @@
+-- Law: redrawing an accepted table gives an accepted table.
+-- Assumes nothing.
+use mathlib.Core.Path.{_≡_, ap, sym, _∙_}
+use mathlib.Core.Logic.{inl, inr}
+use mathlib.Core.Bool.{Bool, true, false, cond, not, _&&_}
+use mathlib.Core.List.{[], _∷_}
+use Prim.Native.Nat.{ℕ, _+_, _*_, _≤_, _<_}
+use native.Mathlib.Omega.{arith}
+use lib.Dec.{eqb}
+use lib.ListN.{length, getD, set, length-set}
+use lib.Seq.{getD-set-same, getD-set-other}
+use borrow.Author.Tests.{le-leb}
+use Rattle.blocks.specs.Kind.{oneOf}
+use Rattle.blocks.specs.Profile.{supportsComponents}
+use Rattle.columns.specs.Column.{Bytes, part}
+use Rattle.columns.specs.declared.Found.{Found}
+use Rattle.columns.specs.declared.Found.the-variants.{At, Nothing}
+use Rattle.columns.specs.First.{onFound}
+use Rattle.columns.proofs.Truth.{and-true}
+use Rattle.columns.proofs.Parts.{length-part, part-at}
+use Rattle.places.specs.declared.Pos.{Pos}
+use Rattle.places.specs.Places.{isHorizontal, beside}
+use Rattle.world.specs.declared.traits.BlockRedstoneTraits.{BlockRedstoneTraits}
+use Rattle.world.specs.Rows.{rows, byteOf, posOf, kindOf, shapeOf}
+use Rattle.world.specs.Find.{find}
+use Rattle.world.specs.Traits.{ArmNone, ArmSide, ArmUp, isArm, nothing, topHalf, doubleSlab, glass, plain, ofShape, traits, traitsAt}
+use Rattle.refusals.specs.Good.{goodPlace, goodKind, goodValue, goodSupport, goodArms, goodTail, goodRow}
+use Rattle.refusals.proofs.Accepted.{Table}
+use Rattle.wire.specs.Arms.{joins, rises, drops, inferPast, inferWireConnection}
+use Rattle.wire.proofs.Alike.{Alike, same-rows, same-place}
+use Rattle.redraw.specs.declared.Arms.{Arms}
+use Rattle.redraw.specs.Redraw.{entryOf, entriesOf, left, added, withOpposite, drawn, redrawnRow, updateWireShapes}
+use Rattle.redraw.proofs.Rows.{Kept, by-kind}
+use Rattle.redraw.proofs.Redrawn.{redrawn-keeps, redrawn-alike, redrawn-at}
+
+-- ---- an entry is at most 3
+
+small-of : (b : Bool) (m n : ℕ) → m ≤ 3 → n ≤ 3 → cond b m n ≤ 3
+small-of true m n g h = g
+small-of false m n g h = h
+
+rise-of : (b : Bool) (r s : BlockRedstoneTraits) → r .rise ≤ 3 → s .rise ≤ 3 → cond b r s .rise ≤ 3
+rise-of true r s g h = g
+rise-of false r s g h = h
+
+module _ (p t : Bytes) where
+  small-rise : (i : ℕ) → traits p t i .rise ≤ 3
+  unfolding traits plain ofShape
+  small-rise i =
+      let s = shapeOf t i in
+      rise-of (eqb s 0) (plain p (kindOf t i)) (ofShape s)
+      (small-of (supportsComponents p (kindOf t i)) ArmUp ArmNone (omega arith) (omega arith))
+      (rise-of (oneOf (2 ∷ 5 ∷ []) s) topHalf (cond (eqb s 3) doubleSlab (cond (eqb s 6) glass nothing)) (omega arith)
+      (rise-of (eqb s 3) doubleSlab (cond (eqb s 6) glass nothing) (omega arith) (rise-of (eqb s 6) glass nothing (omega arith) (omega arith))))
+
+  small-rise-at : (q : Pos) → traitsAt p t q .rise ≤ 3
+  unfolding traitsAt
+  small-rise-at q = go (find t q)
+    where
+      go : (f : Found) → onFound (traits p t) nothing f .rise ≤ 3
+      go (At i) = small-rise i
+      go Nothing = omega arith
+
+  small-infer : (q : Pos) (f : ℕ) → inferWireConnection p t q f ≤ 3
+  unfolding inferWireConnection inferPast
+  small-infer q f =
+      let side = beside q f in
+      let rise = traitsAt p t side .rise in
+      let low = cond (drops t side) ArmSide ArmNone in
+      small-of (isHorizontal f) (inferPast p t q side f) ArmNone
+      (small-of (joins t side f) ArmSide (cond (rises p t q side) rise low) (omega arith)
+      (small-of (rises p t q side) rise low (small-rise-at side) (small-of (drops t side) ArmSide ArmNone (omega arith) (omega arith))))
+      (omega arith)
+
+  small-entry : (q : Pos) (f : ℕ) → entryOf p t q f ≤ 3
+  unfolding entryOf
+  small-entry q f = small-of (isArm (inferWireConnection p t q f)) (inferWireConnection p t q f) 0 (small-infer q f) (omega arith)
+
+record Small (a : Arms) : Type 0 where
+  north : a .north ≤ 3
+  east : a .east ≤ 3
+  south : a .south ≤ 3
+  west : a .west ≤ 3
+
+small-entries : (p t : Bytes) (i : ℕ) → Small (entriesOf p t i)
+unfolding entriesOf
+small-entries p t i = record { north = small-entry p t _ _; east = small-entry p t _ _; south = small-entry p t _ _; west = small-entry p t _ _ }
+
+small-opposite : (a : Arms) → Small a → Small (withOpposite a)
+unfolding withOpposite
+small-opposite a s =
+    record {
+      north = small (a .south) (a .north) (s .north);
+      east = small (a .west) (a .east) (s .east);
+      south = small (a .north) (a .south) (s .south);
+      west = small (a .east) (a .west) (s .west);
+    }
+  where
+    small : (back own : ℕ) → own ≤ 3 → added (eqb (left a) 1) back own ≤ 3
+    small back own h = small-of (eqb (left a) 1 && not (eqb back 0)) ArmSide own (omega arith) h
+
+-- ---- the arms of a row that is drawn
+
+module _ (r : Bytes) (a : Arms) (w : length r ≡ 32) where
+  abbrev at : ℕ → ℕ
+  at b = getD (drawn r a) b 0
+
+  record Drawn : Type 0 where
+    stored : at 23 ≡ 1
+    north : at 24 ≡ a .north
+    east : at 25 ≡ a .east
+    south : at 26 ≡ a .south
+    west : at 27 ≡ a .west
+
+  here : (s : Bytes) (n v : ℕ) → length s ≡ 32 → n < 32 → getD (set s n v) n 0 ≡ v
+  here s n v e h = getD-set-same s n v 0 (omega arith)
+
+  past : (s : Bytes) (n b v : ℕ) → b < n → getD (set s n v) b 0 ≡ getD s b 0
+  past s n b v h = getD-set-other s n b v 0 (λ e. omega arith)
+
+  drawn-arms : Drawn
+  unfolding drawn
+  drawn-arms =
+      let s3 = set r 23 1 in
+      let s4 = set s3 24 (a .north) in
+      let s5 = set s4 25 (a .east) in
+      let s6 = set s5 26 (a .south) in
+      let w3 : length s3 ≡ 32 = length-set r 23 1 ∙ w in
+      let w4 : length s4 ≡ 32 = length-set s3 24 (a .north) ∙ w3 in
+      let w5 : length s5 ≡ 32 = length-set s4 25 (a .east) ∙ w4 in
+      let w6 : length s6 ≡ 32 = length-set s5 26 (a .south) ∙ w5 in
+      record {
+        stored =
+            past s6 27 23 (a .west) (omega arith) ∙ past s5 26 23 (a .south) (omega arith) ∙ past s4 25 23 (a .east) (omega arith)
+            ∙ past s3 24 23 (a .north) (omega arith) ∙ here r 23 1 w (omega arith);
+        north =
+            past s6 27 24 (a .west) (omega arith) ∙ past s5 26 24 (a .south) (omega arith) ∙ past s4 25 24 (a .east) (omega arith)
+            ∙ here s3 24 (a .north) w3 (omega arith);
+        east = past s6 27 25 (a .west) (omega arith) ∙ past s5 26 25 (a .south) (omega arith) ∙ here s4 25 (a .east) w4 (omega arith);
+        south = past s6 27 26 (a .west) (omega arith) ∙ here s5 26 (a .south) w5 (omega arith);
+        west = here s6 27 (a .west) w6 (omega arith);
+      }
+
+  good-drawn : Small a → goodArms (drawn r a) 0 ≡ true
+  good-drawn s =
+      let d : Drawn = drawn-arms in
+      rw (d .stored, d .north, d .east, d .south, d .west, le-leb _ 3 (s .north), le-leb _ 3 (s .east), le-leb _ 3 (s .south), le-leb _ 3 (s .west))
+
+-- ---- every row is good again
+
+-- the arms of row i, where its bytes are r
+row-arms : (s : Bytes) (i : ℕ) (r : Bytes) → ((b : ℕ) → b < 32 → byteOf s i b ≡ getD r b 0) → goodArms s i ≡ goodArms r 0
+row-arms s i r h = rw (h 23 (omega arith), h 24 (omega arith), h 25 (omega arith), h 26 (omega arith), h 27 (omega arith))
+
+-- the fields before the arms
+abbrev fields : Bytes → ℕ → Bool
+fields t i = goodPlace (posOf t i) && goodKind t i && goodValue t i 15 && goodValue t i 17 && goodSupport t i
+
+module _ (t u : Bytes) (i : ℕ) (kept : (b : ℕ) → Kept b → byteOf u i b ≡ byteOf t i b) where
+  low : (b : ℕ) → b < 23 → byteOf u i b ≡ byteOf t i b
+  low b h = kept b (inl h)
+
+  high : (b : ℕ) → 27 < b → b < 32 → byteOf u i b ≡ byteOf t i b
+  high b g h = kept b (inr (g, h))
+
+  same-fields : posOf u i ≡ posOf t i → fields u i ≡ fields t i
+  same-fields e =
+      rw (e, low 12 (omega arith), low 13 (omega arith), low 14 (omega arith), low 15 (omega arith), low 16 (omega arith), low 17 (omega arith), low 18 (omega arith), low 19 (omega arith), low 20 (omega arith), low 21 (omega arith), low 22 (omega arith))
+
+  same-tail : goodTail u i ≡ goodTail t i
+  same-tail =
+      rw (high 28 (omega arith) (omega arith), high 29 (omega arith) (omega arith), high 30 (omega arith) (omega arith), high 31 (omega arith) (omega arith))
+
+both : (a b : Bool) → a ≡ true → b ≡ true → (a && b) ≡ true
+both a b g h = rw (g, h)
+
+module _ (p t : Bytes) (a : Table t) where
+  good-arms : (i : ℕ) → i < rows t → goodArms t i ≡ true → goodArms (updateWireShapes p t) i ≡ true
+  good-arms i l g =
+      let whole : length (part 32 t i) ≡ 32 = length-part 32 t i (omega (arith, a .whole)) in
+      let old : goodArms (part 32 t i) 0 ≡ true = sym (row-arms t i (part 32 t i) (λ b h. sym (part-at 32 t i b h))) ∙ g in
+      row-arms (updateWireShapes p t) i (redrawnRow p t i) (λ b h. redrawn-at p t (a .whole) i b l h)
+      ∙ by-kind p t i (λ r. goodArms r 0 ≡ true) (good-drawn (part 32 t i) _ whole (small-opposite _ (small-entries p t i))) old
+
+  redrawn-good : (i : ℕ) → i < rows t → goodRow (updateWireShapes p t) i ≡ true
+  unfolding goodRow
+  redrawn-good i l =
+      let kept = redrawn-keeps p t (a .whole) i in
+      let (h5, tail) = and-true _ (goodTail t i) (a .good i l) in
+      let (h4, arms) = and-true (fields t i) (goodArms t i) h5 in
+      both (fields (updateWireShapes p t) i && goodArms (updateWireShapes p t) i) (goodTail (updateWireShapes p t) i)
+      (both (fields (updateWireShapes p t) i) (goodArms (updateWireShapes p t) i)
+      (same-fields t (updateWireShapes p t) i kept (same-place (redrawn-alike p t (a .whole)) i) ∙ h4)
+      (good-arms i l arms))
+      (same-tail t (updateWireShapes p t) i kept ∙ tail)
+
+  pub redrawn-table : Table (updateWireShapes p t)
+  redrawn-table =
+      let s : Alike (updateWireShapes p t) t = redrawn-alike p t (a .whole) in
+      record {
+        whole = s .long ∙ a .whole ∙ ap (λ n. n * 32) (sym (same-rows s));
+        few = rw (same-rows s) (a .few);
+        good = λ i l. redrawn-good i (rw (same-rows s) at l);
+        ordered = λ i l. rw (same-place s i, same-place s (i + 1)) (a .ordered i (rw (same-rows s) at l));
+      }

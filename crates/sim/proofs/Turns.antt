@@ -1,0 +1,56 @@
+-- Laws of a loop that lends each row's sixteen bytes of a state to be written.
+-- Assumes nothing.
+use mathlib.Core.Path.{_≡_, refl, ap, _∙_}
+use Prim.Native.Nat.{ℕ, _+_, _*_, _-_, _≤_, _<_}
+use native.Mathlib.Nat.{le-antisymm, add-zero}
+use native.Mathlib.Omega.{arith}
+use lib.ListN.{length, getD}
+use borrow.Rule.Slice.PartMut.{midOf, putMid, same-len-mid}
+use Rattle.columns.specs.Column.{Bytes, part, joined}
+use Rattle.columns.proofs.Parts.{length-part, part-at, Written, written-none, written-lent, written-more, written-all}
+
+-- after i of the n rows of the state s, of which row k becomes f k
+pub record Turns (f : ℕ → Bytes) (s : Bytes) (n i : ℕ) (now : Bytes) : Type 0 where
+  pub within : i ≤ n
+  pub old : length s ≡ n * 16
+  pub sized : length now ≡ n * 16
+  pub written : Written 16 f s i now
+
+pub turns-none : {f : ℕ → Bytes} {s : Bytes} {n : ℕ} → length s ≡ n * 16 → Turns f s n 0 s
+turns-none h = record { within = omega arith; old = h; sized = h; written = written-none }
+
+-- a row's end less its start
+width : (i : ℕ) → i * 16 + 16 - i * 16 ≡ 16
+width i = omega arith
+
+-- the sixteen bytes of row i of a state that is read
+pub lent-part : (s : Bytes) (i : ℕ) → midOf (i * 16) (i * 16 + 16 - i * 16) s ≡ part 16 s i
+lent-part s i = rw (width i)
+
+-- the device byte of row i
+pub device-at : (s : Bytes) (i : ℕ) → getD (part 16 s i) 0 0 ≡ getD s (i * 16) 0
+device-at s i = part-at 16 s i 0 (omega arith) ∙ ap (λ k. getD s k 0) (add-zero (i * 16))
+
+module _ {f : ℕ → Bytes} {s : Bytes} {n i : ℕ} {now : Bytes} (h : Turns f s n i now) (l : i < n) where
+  -- row i as it is lent is row i as it came
+  pub turns-lent : midOf (i * 16) (i * 16 + 16 - i * 16) now ≡ part 16 s i
+  turns-lent = lent-part now i ∙ written-lent (h .written)
+
+  -- it has sixteen bytes
+  pub turns-room : length (midOf (i * 16) (i * 16 + 16 - i * 16) now) ≡ 16
+  turns-room = rw (width i) (length-part 16 now i (omega arith))
+
+  -- one row more
+  pub turns-more : {r : Bytes} → r ≡ f i → length r ≡ length (midOf (i * 16) (i * 16 + 16 - i * 16) now)
+      → Turns f s n (i + 1) (putMid (i * 16) (i * 16 + 16 - i * 16) now r)
+  turns-more {r} e k =
+      record {
+        within = omega arith;
+        old = h .old;
+        sized = same-len-mid (i * 16) (i * 16 + 16 - i * 16) now r k ∙ h .sized;
+        written = rw (width i) (written-more (h .written) e (k ∙ turns-room));
+      }
+
+-- once every row is written
+pub turns-all : {f : ℕ → Bytes} {s : Bytes} {n i : ℕ} {now : Bytes} → Turns f s n i now → n ≤ i → now ≡ joined n f
+turns-all {n = n} h l = written-all (h .written) n (le-antisymm (h .within) l) (h .old)

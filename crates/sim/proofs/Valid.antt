@@ -1,0 +1,109 @@
+-- Laws of valid states: what the check says of one, that a tick keeps it valid, that the fresh state is valid, and that its devices are.
+-- Assumes nothing.
+use mathlib.Core.Path.{_≡_, _∙_}
+use mathlib.Core.Bool.{true}
+use Prim.Native.Nat.{ℕ, zero, suc, _*_, _<_}
+use native.Mathlib.Omega.{arith}
+use lib.ListN.{length}
+use lib.Dec.{eqb}
+use borrow.Author.Tests.{eqb-true, eq-eqb, not-false}
+use Rattle.columns.specs.Column.{Bytes}
+use Rattle.columns.specs.First.{firstFrom}
+use Rattle.columns.proofs.Columns.{length-tabulate, row-tabulate}
+use Rattle.columns.proofs.First.{first-none, none-first}
+use Rattle.columns.proofs.Parts.{length-joined, part-joined}
+use Rattle.world.specs.Rows.{rows}
+use Rattle.refusals.specs.declared.Checked.the-variants.{Accepted}
+use Rattle.refusals.proofs.Passed.{passed-unless, passed-at}
+use Rattle.electrical.specs.Emitted.{IsValid}
+use Rattle.electrical.specs.Answer.{settled}
+use Rattle.electrical.proofs.Devices.{devices-valid}
+use Rattle.devices.specs.Row.{deviceOf, goodState}
+use Rattle.devices.specs.Fresh.{freshDevice, freshRow}
+use Rattle.devices.specs.Step.{deviceRow, lampRow}
+use Rattle.devices.proofs.Rows.{length-fresh, length-device}
+use Rattle.devices.proofs.Valid.{parts, whole, device-good, lamp-good}
+use Rattle.devices.proofs.FreshValid.{fresh-device, fresh-good}
+use Rattle.sim.specs.State.{sixteen, devicesOf, isBadState, checkState, freshDevices, freshState}
+use Rattle.sim.specs.Tick.{settledOf, setDevices, tick, ticks}
+use Rattle.sim.proofs.States.{row-length, length-set-devices, length-tick, device-row, tick-row}
+
+-- no refusal falls on the state st of the table t
+abbrev pub IsValidState : Bytes → Bytes → Type 0
+IsValidState t st = checkState t st ≡ Accepted
+
+pub record Stated (t st : Bytes) : Type 0 where
+  pub sized : length st ≡ rows t * 16
+  pub good : (i : ℕ) → i < rows t → goodState t i (sixteen st i) ≡ true
+
+pub valid-state : (t st : Bytes) → IsValidState t st → Stated t st
+unfolding checkState
+valid-state t st h =
+    let (a, g) = passed-unless 6 (eqb (length st) (rows t * 16)) _ h in
+    let (b, _) = passed-at 6 0 (firstFrom (isBadState t st) (rows t) 0) _ g in
+    record { sized = eqb-true _ _ a; good = λ i l. not-false _ (first-none (isBadState t st) (rows t) 0 b i (omega arith) (omega arith)) }
+
+pub state-valid : (t st : Bytes) → Stated t st → IsValidState t st
+unfolding checkState
+state-valid t st v =
+    rw (eq-eqb (length st) (rows t * 16) (v .sized), none-first (isBadState t st) (rows t) 0 (λ i _ l. rw (v .good i (omega arith))))
+
+-- ---- the devices of a valid state, and of a fresh one
+
+pub devices-of-valid : (t st : Bytes) → IsValidState t st → IsValid t (devicesOf t st)
+unfolding devicesOf
+devices-of-valid t st h =
+    let v = valid-state t st h in
+    devices-valid t (devicesOf t st)
+    (record {
+      sized = length-tabulate (rows t) 0 _;
+      good = λ i l. rw (row-tabulate (rows t) (λ i. deviceOf (sixteen st i)) i l) (parts t i (sixteen st i) (v .good i l) .device);
+    })
+
+pub fresh-devices-valid : (t : Bytes) → IsValid t (freshDevices t)
+unfolding freshDevices
+fresh-devices-valid t =
+    devices-valid t (freshDevices t)
+    (record {
+      sized = length-tabulate (rows t) 0 _;
+      good = λ i l. rw (row-tabulate (rows t) (freshDevice t) i l) (fresh-device t i);
+    })
+
+-- ---- a tick keeps a valid state valid
+
+pub tick-valid : (p t st : Bytes) → IsValidState t st → IsValidState t (tick p t st)
+tick-valid p t st h = state-valid t (tick p t st) (record { sized = length-tick p t st long; good = good })
+  where
+    old : Stated t st
+    old = valid-state t st h
+
+    long : length st ≡ rows t * 16
+    long = old .sized
+
+    good : (i : ℕ) → i < rows t → goodState t i (sixteen (tick p t st) i) ≡ true
+    good i l =
+        let d = devicesOf t st in
+        let s = settledOf p t st in
+        let r = sixteen st i in
+        let wide = row-length t st long i l in
+        let set = device-good p t d s i r wide (parts t i r (old .good i l)) in
+        rw (tick-row p t st long i l, device-row p t st long i l)
+        (whole t i _ (lamp-good t (settledOf p t (setDevices p t st)) i (deviceRow p t d s i r) (length-device p t d s i r ∙ wide) set))
+
+pub ticks-valid : (n : ℕ) (p t st : Bytes) → IsValidState t st → IsValidState t (ticks n p t st)
+unfolding ticks
+ticks-valid zero p t st h = h
+ticks-valid (suc n) p t st h = ticks-valid n p t (tick p t st) (tick-valid p t st h)
+
+-- ---- the fresh state is valid
+
+pub fresh-valid : (p t : Bytes) → IsValidState t (freshState p t)
+unfolding freshState
+fresh-valid p t =
+    let s = settled p t (freshDevices t) in
+    let wide : (i : ℕ) → i < rows t → length (freshRow t s i) ≡ 16 = λ i l. length-fresh p t (freshDevices t) s i t in
+    state-valid t (freshState p t)
+    (record {
+      sized = length-joined 16 (freshRow t s) (rows t) wide;
+      good = λ i l. rw (part-joined 16 (freshRow t s) (rows t) wide i l) (fresh-good t i s);
+    })

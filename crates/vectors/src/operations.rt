@@ -1,0 +1,86 @@
+// Whether the answer of a record is right: the record is taken apart as its operation lays it out, and its parts are compared.
+use crate::answers;
+use crate::record::after;
+use crate::record::from;
+use crate::record::has_parts;
+use crate::record::long;
+use crate::record::slice_of;
+use crate::record::word;
+use columns::byte_at;
+use places::Pos;
+use world::row::pos_of;
+ghost use mathlib.Core.Path.{_≡_};
+ghost use lib.IntN.{ℤ};
+ghost use Rattle.vectors.specs.Operations.{posAt, traitsRight, shapeRight, findRight, supportsRight, propertiesRight, offsetRight, isRight};
+
+fn traits_right(r: &[u8]) -> bool
+    ensures { λ b. ⌜ b ≡ traitsRight (now (r .entry)) ⌝ }
+{
+    has_parts(r, 3, 0) & answers::traits_agree(slice_of(r, 0), slice_of(r, 1), slice_of(r, 2))
+}
+
+fn shape_right(r: &[u8]) -> bool
+    ensures { λ b. ⌜ b ≡ shapeRight (now (r .entry)) ⌝ }
+{
+    let shape = byte_at(after(r, 3), 0);
+    has_parts(r, 3, 1)
+        & answers::shape_agrees(slice_of(r, 0), slice_of(r, 1), slice_of(r, 2), shape)
+}
+
+// A position, laid out as in a row of a table.
+fn pos_at(s: &[u8], at: usize) -> Pos
+    ensures { λ q. ⌜ q ≡ posAt (now (s .entry)) at ⌝ }
+{
+    pos_of(from(s, at), 0)
+}
+
+fn find_right(r: &[u8]) -> bool
+    ensures { λ b. ⌜ b ≡ findRight (now (r .entry)) ⌝ }
+{
+    let rest = after(r, 1);
+    has_parts(r, 1, 21)
+        & answers::find_agrees(
+            slice_of(r, 0),
+            pos_at(rest, 0),
+            long(from(rest, 12)),
+            byte_at(rest, 20),
+        )
+}
+
+fn supports_right(r: &[u8]) -> bool
+    ensures { λ b. ⌜ b ≡ supportsRight (now (r .entry)) ⌝ }
+{
+    let answer = word(after(r, 3));
+    has_parts(r, 3, 4)
+        & answers::supports_agree(slice_of(r, 0), slice_of(r, 1), slice_of(r, 2), answer)
+}
+
+fn properties_right(r: &[u8]) -> bool
+    ensures { λ b. ⌜ b ≡ propertiesRight (now (r .entry)) ⌝ }
+{
+    has_parts(r, 1, 13) & answers::properties_agree(slice_of(r, 0), after(r, 1))
+}
+
+fn offset_right(r: &[u8]) -> bool
+    ensures { λ b. ⌜ b ≡ offsetRight (now (r .entry)) ⌝ }
+{
+    let rest = after(r, 0);
+    has_parts(r, 0, 36)
+        & answers::offset_agrees(pos_at(rest, 0), pos_at(rest, 12), pos_at(rest, 24))
+}
+
+// By the operation, the first byte. One that is not known is wrong.
+pub fn is_right(r: &[u8]) -> bool
+    ensures { λ b. ⌜ b ≡ isRight (now (r .entry)) ⌝ }
+{
+    let operation = byte_at(r, 0);
+    match operation {
+        1 => traits_right(r),
+        2 => shape_right(r),
+        3 => find_right(r),
+        4 => supports_right(r),
+        5 => properties_right(r),
+        6 => offset_right(r),
+        _ => false,
+    }
+}
