@@ -1,62 +1,31 @@
 -- Laws of a run of the program: which refusal falls on it. The fresh devices are always valid, and limit 128 is never too low.
 -- Assumes nothing.
-use mathlib.Core.Path.{_≡_, refl}
-use mathlib.Core.Bool.{Bool, true, false, cond, _||_}
+use mathlib.Core.Path.{_≡_}
 use Prim.Native.Nat.{ℕ, _≤_, _<_}
 use native.Mathlib.Omega.{arith}
 use lib.ListN.{length, take, replicate, length-take, length-replicate}
 use lib.Seq.{length-take-le}
-use lib.Dec.{eqb, leb}
 use borrow.Author.Tests.{eq-eqb, ne-eqb, le-leb, lt-leb}
 use Rattle.columns.specs.Column.{Bytes}
-use Rattle.columns.proofs.Columns.{length-tabulate, row-tabulate}
-use Rattle.blocks.specs.Kind.{RedstoneTorch, Repeater, Comparator}
-use Rattle.world.specs.Rows.{rows, kindOf, poweredOf, isPowered, levelOr}
+use Rattle.world.specs.Rows.{rows}
 use Rattle.refusals.specs.declared.Checked.the-variants.{Accepted, Refused}
 use Rattle.refusals.specs.Good.{goodProfile}
 use Rattle.refusals.specs.Check.{checkInput}
 use Rattle.refusals.proofs.Accepted.{accepted-input}
-use Rattle.electrical.specs.Emitted.{goodDevice, checkDevices}
 use Rattle.electrical.specs.Answer.{checkCall, checkSettle}
-use Rattle.electrical.proofs.Devices.{devices-valid}
 use Rattle.electrical.proofs.Demand.{never-unsettled}
-use Rattle.sim.specs.Fresh.{freshDevice, freshDevices}
+use Rattle.sim.specs.State.{freshDevices}
+use Rattle.sim.proofs.Valid.{fresh-devices-valid}
 use Rattle.sim.specs.Calls.{checkFresh}
 use Rattle.report.specs.Text.{refusalText, textOf, profileOf, tableOf, checkRun, checkWhole, runText, settleText}
 use Rattle.report.specs.Put.{Lent}
-
--- ---- the fresh devices are valid
-
--- by what the row's kind is: a repeater, a torch, a comparator
-valid : (repeater torch comparator on off : Bool) (level : ℕ)
-    → (let b = cond repeater (cond on 1 0) (cond torch (cond off 0 1) (cond comparator level 0)) in
-    cond (torch || (repeater || false)) (leb b 1) (comparator || eqb b 0)) ≡ true
-valid true true c true off level = refl
-valid true true c false off level = refl
-valid true false c true off level = refl
-valid true false c false off level = refl
-valid false true c on true level = refl
-valid false true c on false level = refl
-valid false false true on off level = refl
-valid false false false on off level = refl
-
-fresh-valid : (t : Bytes) → checkDevices t (freshDevices t) ≡ Accepted
-unfolding freshDevices freshDevice goodDevice
-fresh-valid t =
-    devices-valid t (freshDevices t)
-    (record {
-      sized = length-tabulate (rows t) 0 (freshDevice t);
-      good = λ i l.
-          rw (row-tabulate (rows t) (freshDevice t) i l)
-          (valid (eqb (kindOf t i) Repeater) (eqb (kindOf t i) RedstoneTorch) (eqb (kindOf t i) Comparator) (isPowered t i) (eqb (poweredOf t i) 1) (levelOr t i (cond (isPowered t i) 15 0)));
-    })
 
 -- ---- what falls on a run
 
 module _ (p t : Bytes) where
   pub run-accepted : checkInput p t ≡ Accepted → checkRun p t ≡ Accepted
   unfolding checkRun
-  run-accepted h = never-unsettled p t (freshDevices t) h (fresh-valid t) 128 (omega arith)
+  run-accepted h = never-unsettled p t (freshDevices t) h (fresh-devices-valid t) 128 (omega arith)
 
   pub run-refused : {n i : ℕ} → checkInput p t ≡ Refused n i → checkRun p t ≡ Refused n i
   unfolding checkRun checkSettle checkCall
