@@ -30,7 +30,7 @@ module _ {a : Bytes} {at : ℕ} {old now : Bytes} {r : ℕ} (p : Puts a at old n
       record {
         end = rw length-append (omega (arith, p .end));
         within = omega arith;
-        bytes = rw (p .bytes, drop-cons old r 0 h, set-at (take at old ++ a) _ _ x r front, add-one, append-assoc, append-assoc, append-assoc);
+        bytes = rw (p .bytes, drop-cons old r 0 h, set-at (take at old ++ a) _ _ x r front, add-one) (simp append-assoc);
       }
 
   -- one text after the other
