@@ -1,7 +1,6 @@
 // The text that the program `settle` writes, as a function of the whole of its input.
 mod lines;
 mod put;
-mod stub;
 
 use refusals::Checked;
 use world::row;
@@ -36,7 +35,7 @@ fn settled_in(
     requires { ⌜ Lent (rows (now table)) (now state) (now signal) (now weak) (now strong) ⌝ }
     ensures { λ r. ⌜ Puts (runText (now (profile .entry)) (now (table .entry))) 0 (now (out .entry)) (now (out .exit)) r ⌝ }
 {
-    let rounds = stub::fresh(profile, table, state, signal, weak, strong);
+    let rounds = sim::fresh(profile, table, state, signal, weak, strong);
     lines::settled(out, table, rounds, signal, weak, strong)
 }
 

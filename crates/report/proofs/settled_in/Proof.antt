@@ -6,7 +6,7 @@ use Rattle.report.proofs.settled_in.Statement.{statement}
 use Rattle.report.proofs.settled_in.Tie as tie
 
 fresh-requires : tie.Need-fresh-requires
-fresh-requires c κs = ?
+fresh-requires c κs = search needs
 
 settled-requires : tie.Need-settled-requires
 settled-requires c κs =
