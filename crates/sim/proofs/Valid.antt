@@ -13,24 +13,18 @@ use Rattle.columns.proofs.Columns.{length-tabulate, row-tabulate}
 use Rattle.columns.proofs.First.{first-none, none-first}
 use Rattle.columns.proofs.Parts.{length-joined, part-joined}
 use Rattle.world.specs.Rows.{rows}
-use Rattle.refusals.specs.declared.Checked.the-variants.{Accepted}
 use Rattle.refusals.proofs.Passed.{passed-unless, passed-at}
 use Rattle.electrical.specs.Emitted.{IsValid}
 use Rattle.electrical.specs.Answer.{settled}
 use Rattle.electrical.proofs.Devices.{devices-valid}
 use Rattle.devices.specs.Row.{deviceOf, goodState}
 use Rattle.devices.specs.Fresh.{freshDevice, freshRow}
-use Rattle.devices.specs.Step.{deviceRow, lampRow}
-use Rattle.devices.proofs.Rows.{length-fresh, length-device}
+use Rattle.devices.proofs.Rows.{length-fresh}
 use Rattle.devices.proofs.Valid.{parts, whole, device-good, lamp-good}
 use Rattle.devices.proofs.FreshValid.{fresh-device, fresh-good}
-use Rattle.sim.specs.State.{sixteen, devicesOf, isBadState, checkState, freshDevices, freshState}
+use Rattle.sim.specs.State.{sixteen, devicesOf, isBadState, checkState, IsValidState, freshDevices, freshState}
 use Rattle.sim.specs.Tick.{settledOf, setDevices, tick, ticks}
 use Rattle.sim.proofs.States.{row-length, length-set-devices, length-tick, device-row, tick-row}
-
--- no refusal falls on the state st of the table t
-abbrev pub IsValidState : Bytes → Bytes → Type 0
-IsValidState t st = checkState t st ≡ Accepted
 
 pub record Stated (t st : Bytes) : Type 0 where
   pub sized : length st ≡ rows t * 16
@@ -71,24 +65,38 @@ fresh-devices-valid t =
 
 -- ---- a tick keeps a valid state valid
 
-pub tick-valid : (p t st : Bytes) → IsValidState t st → IsValidState t (tick p t st)
-tick-valid p t st h = state-valid t (tick p t st) (record { sized = length-tick p t st long; good = good })
-  where
-    old : Stated t st
-    old = valid-state t st h
+module _ (p t st : Bytes) (h : IsValidState t st) where
+  old : Stated t st
+  old = valid-state t st h
 
-    long : length st ≡ rows t * 16
-    long = old .sized
+  -- once its devices are set
+  pub set-devices-valid : IsValidState t (setDevices p t st)
+  set-devices-valid =
+      state-valid t (setDevices p t st)
+      (record {
+        sized = length-set-devices p t st (old .sized);
+        good = λ i l.
+            let r = sixteen st i in
+            rw (device-row p t st (old .sized) i l)
+            (whole t i _ (device-good p t (devicesOf t st) (settledOf p t st) i r (row-length t st (old .sized) i l) (parts t i r (old .good i l))));
+      })
 
-    good : (i : ℕ) → i < rows t → goodState t i (sixteen (tick p t st) i) ≡ true
-    good i l =
-        let d = devicesOf t st in
-        let s = settledOf p t st in
-        let r = sixteen st i in
-        let wide = row-length t st long i l in
-        let set = device-good p t d s i r wide (parts t i r (old .good i l)) in
-        rw (tick-row p t st long i l, device-row p t st long i l)
-        (whole t i _ (lamp-good t (settledOf p t (setDevices p t st)) i (deviceRow p t d s i r) (length-device p t d s i r ∙ wide) set))
+module _ (p t st : Bytes) (h : IsValidState t st) where
+  half : Stated t (setDevices p t st)
+  half = valid-state t (setDevices p t st) (set-devices-valid p t st h)
+
+  -- and once its lamps are
+  pub tick-valid : IsValidState t (tick p t st)
+  tick-valid =
+      let long = valid-state t st h .sized in
+      state-valid t (tick p t st)
+      (record {
+        sized = length-tick p t st long;
+        good = λ i l.
+            let r = sixteen (setDevices p t st) i in
+            rw (tick-row p t st long i l)
+            (whole t i _ (lamp-good t (settledOf p t (setDevices p t st)) i r (row-length t (setDevices p t st) (half .sized) i l) (parts t i r (half .good i l))));
+      })
 
 pub ticks-valid : (n : ℕ) (p t st : Bytes) → IsValidState t st → IsValidState t (ticks n p t st)
 unfolding ticks

@@ -1,3 +1,4 @@
 pub mod State
 pub mod Tick
+pub mod Running
 pub mod Calls

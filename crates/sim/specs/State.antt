@@ -1,5 +1,6 @@
 -- The state of a simulation: sixteen bytes a row, its device column, which states are valid, and the fresh one.
 -- Assumes nothing.
+use mathlib.Core.Path.{_≡_}
 use mathlib.Core.Bool.{Bool, not}
 use Prim.Native.Nat.{ℕ, _*_}
 use lib.ListN.{length}
@@ -30,6 +31,10 @@ isBadState t st i = not (goodState t i (sixteen st i))
 -- 6 bad state: "state of wrong length or value"; "in 6 length before value"
 unfoldable pub checkState : Bytes → Bytes → Checked
 checkState t st = refuseUnless 6 (eqb (length st) (rows t * 16)) (refuseAt 6 0 (firstFrom (isBadState t st) (rows t) 0) Accepted)
+
+-- no refusal falls on the state
+abbrev pub IsValidState : Bytes → Bytes → Type 0
+IsValidState t st = checkState t st ≡ Accepted
 
 -- ---- the fresh state: `RedstoneTickSimulator::new`
 

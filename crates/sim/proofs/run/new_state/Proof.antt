@@ -1,0 +1,56 @@
+-- `sim::run::new_state` meets its contract. Assumes nothing.
+use mathlib.Core.Path.{_≡_, refl, _∙_}
+use Rattle.sim.proofs.Running.{room-kept}
+use Rattle.sim.proofs.Valid.{fresh-devices-valid}
+use Rattle.sim.proofs.States.{fresh-read}
+use borrow.Author.Needs.{needs}
+use Rattle.sim.proofs.run.new_state.Statement.{statement}
+use Rattle.sim.proofs.run.new_state.Tie as tie
+
+fill-fresh-devices-requires : tie.Need-fill-fresh-devices-requires
+fill-fresh-devices-requires c κs = c .before .before .before .before .before .before .before .before .pre .2 .device-rows
+
+settle-requires : tie.Need-settle-requires
+settle-requires c κs =
+    let s = c .before .before .before .before .before .before .before .before .before .before .before .before .before .before .before in
+    let filled = c .before .before .before .before .before .before .fill-fresh-devices in
+    (s .pre .0, rw (filled .ensures) (fresh-devices-valid _), room-kept (s .pre .2) (filled .kept .1 .0) refl refl refl)
+
+fill-fresh-requires : tie.Need-fill-fresh-requires
+fill-fresh-requires c κs = search needs
+
+same-length : tie.Need-same-length
+same-length c = search needs
+
+same-length-2 : tie.Need-same-length-2
+same-length-2 c = search needs
+
+same-length-3 : tie.Need-same-length-3
+same-length-3 c = search needs
+
+same-length-4 : tie.Need-same-length-4
+same-length-4 c = search needs
+
+same-length-5 : tie.Need-same-length-5
+same-length-5 c = search needs
+
+returns : tie.Need-returns
+returns c =
+    let filled = c .before .before .before .before .before .before .before .before .before .before .before .before .before .before .before .before .before .before .before .fill-fresh-devices .ensures in
+    let done = c .before .before .before .before .before .before .before .before .before .before .before .before .settle .ensures in
+    let stands = rw filled at (done .1) in
+    (rw (stands .weaks, stands .strongs) at (c .before .before .fill-fresh .ensures) ∙ fresh-read _ _, (rw filled at (done .0), stands))
+
+pub new-state-spec : {M : Type 1} → statement M
+new-state-spec =
+    tie.close
+    (tie.spec
+    fill-fresh-devices-requires
+    settle-requires
+    fill-fresh-requires
+    same-length
+    same-length-2
+    same-length-3
+    same-length-4
+    same-length-5
+    returns)

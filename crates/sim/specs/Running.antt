@@ -1,0 +1,35 @@
+-- What stands in the buffers of a call that passed its checks, while it runs.
+-- Assumes nothing.
+use mathlib.Core.Path.{_≡_}
+use Prim.Native.Nat.{ℕ, _*_}
+use lib.ListN.{length}
+use Rattle.columns.specs.Column.{Bytes, Column}
+use Rattle.world.specs.Rows.{rows}
+use Rattle.refusals.specs.Check.{IsAccepted}
+use Rattle.electrical.specs.Emitted.{IsValid}
+use Rattle.electrical.specs.Answer.{settled}
+use Rattle.sim.specs.State.{devicesOf}
+
+-- One entry a row of the table t in the device column and in the three output columns.
+pub record Room (t : Bytes) (d signal weak strong : Column) : Type 0 where
+  pub device-rows : length d ≡ rows t
+  pub signal-rows : length signal ≡ rows t
+  pub weak-rows : length weak ≡ rows t
+  pub strong-rows : length strong ≡ rows t
+
+-- The table is accepted, and the state st has sixteen bytes a row, with valid devices.
+pub record Ready (p t st : Bytes) : Type 0 where
+  pub accepted : IsAccepted p t
+  pub long : length st ≡ rows t * 16
+  pub valid : IsValid t (devicesOf t st)
+
+-- The output columns hold what the devices d settle to.
+pub record Stands (p t : Bytes) (d signal weak strong : Column) : Type 0 where
+  pub signals : signal ≡ settled p t d .signal
+  pub weaks : weak ≡ settled p t d .weak
+  pub strongs : strong ≡ settled p t d .strong
+
+-- The device column is that of the state st, and the output columns hold what it settles to.
+pub record Settled (p t st : Bytes) (d signal weak strong : Column) : Type 0 where
+  pub devices : d ≡ devicesOf t st
+  pub stands : Stands p t (devicesOf t st) signal weak strong
