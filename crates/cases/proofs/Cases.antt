@@ -22,6 +22,7 @@ use Rattle.devices.specs.Row.{deviceOf, togglesOf, candidateOf, delayOf, bitsSe
 use Rattle.sim.specs.State.{sixteen, freshDevices, freshState}
 use Rattle.sim.specs.Tick.{tick, ticks}
 use Rattle.sim.specs.Calls.{switched}
+use Rattle.report.specs.Text.{ascii, settleText}
 use Rattle.cases.proofs.Computing.{computing}
 use Rattle.cases.proofs.Build as Build
 use Rattle.cases.proofs.Build.{block, facing, powered, delay, support, shape, subtract}
@@ -53,6 +54,11 @@ settling limit t =
 line : Bytes
 line =
     block RedstoneBlock 0 1 0 ++ block Solid 1 0 0 ++ block RedstoneWire 1 1 0 ++ block Solid 2 0 0 ++ block RedstoneWire 2 1 0
+
+-- what the program `settle` writes for a table
+text : Bytes → Column
+unfolding computing
+text t = settleText (benchProfile ++ t)
 
 -- test 4's table: the redstone block, and n pairs of Solid and dust from x on
 pairs : ℕ → ℕ → Bytes
@@ -198,7 +204,7 @@ candidates =
 -- ---- the book
 
 cases : List Case
-unfolding settling line longLine ends comparing rising redrawnPast delayed outputs compares compare counted candidates
+unfolding settling line text longLine ends comparing rising redrawnPast delayed outputs compares compare counted candidates
 cases =
     -- 1: "no rows: rounds 1; limit 0 gives 8"
     record { given = settling 128 []; wanted = 1 ∷ [] }
@@ -211,6 +217,14 @@ cases =
       given = settling 128 line;
       wanted = 4 ∷ (15 ∷ 0 ∷ 15 ∷ 0 ∷ 14 ∷ []) ++ (0 ∷ 15 ∷ 0 ∷ 14 ∷ 0 ∷ []) ++ (0 ∷ 0 ∷ 0 ∷ 0 ∷ 0 ∷ []);
     }
+    -- and "`settle` writes"
+    ∷ record {
+      given = text line;
+      wanted =
+          ascii "blocks=5\nrounds=4\nrow=0,1,0,15,0,0\nrow=1,0,0,0,15,0\nrow=1,1,0,15,0,0\nrow=2,0,0,0,14,0\nrow=2,1,0,14,0,0\n";
+    }
+    -- a position that is not after the row before: number 5, at the second row
+    ∷ record { given = text (block Solid 1 0 0 ++ block Solid 0 0 0); wanted = ascii "refusal=5\nplace=1\n" }
     -- 4: "last level 1, rounds 17; limit 16 gives 8"
     ∷ record { given = ends 128 longLine; wanted = 17 ∷ 1 ∷ [] }
     ∷ record { given = ends 16 longLine; wanted = 524288 ∷ 1 ∷ [] }

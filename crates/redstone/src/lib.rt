@@ -1,0 +1,84 @@
+// The map editor's four calls. Each answers the rounds of its settling, 1 to 17, or 65,536 times the number of the refusal that falls on it
+// plus the row at fault; a refused call writes no byte.
+ghost use lib.IntN.{ℤ};
+ghost use Rattle.places.specs.Places.{cell};
+ghost use Rattle.electrical.specs.Answer.{Settles};
+ghost use Rattle.sim.specs.Calls.{Fresh, Ticks, Switches};
+
+// The fresh state of a table, and what it settles to.
+#[no_mangle]
+pub extern "C" fn redstone_fresh(
+    profile: &[u8],
+    table: &[u8],
+    state: &mut [u8],
+    signal: &mut [u8],
+    weak: &mut [u8],
+    strong: &mut [u8],
+) -> u32
+    ensures { λ r. ⌜ Fresh (now (profile .entry)) (now (table .entry)) (now (state .entry)) (now (state .exit)) (now (signal .entry)) (now (weak .entry)) (now (strong .entry)) (now (signal .exit)) (now (weak .exit)) (now (strong .exit)) r ⌝ }
+{
+    sim::fresh(profile, table, state, signal, weak, strong)
+}
+
+// What a table settles to with a column of devices, within a limit of rounds.
+#[no_mangle]
+pub extern "C" fn redstone_settle(
+    profile: &[u8],
+    table: &[u8],
+    devices: &[u8],
+    limit: u32,
+    signal: &mut [u8],
+    weak: &mut [u8],
+    strong: &mut [u8],
+) -> u32
+    ensures { λ r. ⌜ Settles (now (profile .entry)) (now (table .entry)) (now (devices .entry)) limit (now (signal .entry)) (now (weak .entry)) (now (strong .entry)) (now (signal .exit)) (now (weak .exit)) (now (strong .exit)) r ⌝ }
+{
+    solver::solve_instantaneous(profile, table, devices, limit, signal, weak, strong)
+}
+
+// The state that many ticks after the tick it stands at, and what it settles to.
+#[no_mangle]
+pub extern "C" fn redstone_tick(
+    profile: &[u8],
+    table: &[u8],
+    state: &mut [u8],
+    tick: u32,
+    ticks: u32,
+    signal: &mut [u8],
+    weak: &mut [u8],
+    strong: &mut [u8],
+) -> u32
+    ensures { λ r. ⌜ Ticks (now (profile .entry)) (now (table .entry)) (now (state .entry)) (now (state .exit)) tick ticks (now (signal .entry)) (now (weak .entry)) (now (strong .entry)) (now (signal .exit)) (now (weak .exit)) (now (strong .exit)) r ⌝ }
+{
+    sim::tick(profile, table, state, tick, ticks, signal, weak, strong)
+}
+
+// The table with the block at a position switched, any number but 0 being on, and what it settles to.
+#[no_mangle]
+pub extern "C" fn redstone_switch(
+    profile: &[u8],
+    table: &mut [u8],
+    state: &[u8],
+    x: i32,
+    y: i32,
+    z: i32,
+    powered: u32,
+    signal: &mut [u8],
+    weak: &mut [u8],
+    strong: &mut [u8],
+) -> u32
+    ensures { λ r. ⌜ Switches (now (profile .entry)) (now (table .entry)) (now (table .exit)) (now (state .entry)) (cell x y z) powered (now (signal .entry)) (now (weak .entry)) (now (strong .entry)) (now (signal .exit)) (now (weak .exit)) (now (strong .exit)) r ⌝ }
+{
+    sim::switch(
+        profile,
+        table,
+        state,
+        x,
+        y,
+        z,
+        powered,
+        signal,
+        weak,
+        strong,
+    )
+}

@@ -1,0 +1,162 @@
+-- No text is longer than the room: the text of every input of bytes fits.
+-- Assumes nothing.
+use mathlib.Core.Path.{_≡_, refl}
+use mathlib.Core.Bool.{Bool, true, false, cond}
+use mathlib.Core.Logic.{by-cases}
+use Prim.Native.Nat.{ℕ, zero, suc, _+_, _*_, _-_, _%_, _≤_, _<_, zero-le}
+use native.Mathlib.Nat.{suc-mul, zero-add, add-zero}
+use native.Mathlib.Decide.{decLt}
+use native.Mathlib.Omega.{arith}
+use lib.ListN.{length, getD, length-append, List·getD-eq-default}
+use lib.Seq.{getD-drop}
+use lib.Dec.{eqb, leb}
+use lib.IntN.{ℤ, pos, negsuc}
+use lib.Signed.{mag}
+use borrow.Author.Tests.{leb-true}
+use Rattle.columns.specs.declared.Found.{Found}
+use Rattle.columns.specs.declared.Found.the-variants.{At, Nothing}
+use Rattle.columns.specs.Column.{Bytes, row, tabulate, joinedFrom, joined}
+use Rattle.columns.specs.First.{firstFrom}
+use Rattle.columns.proofs.Columns.{length-tabulate, row-tabulate}
+use Rattle.columns.proofs.First.{first-at}
+use Rattle.places.specs.declared.Pos.{Pos}
+use Rattle.places.proofs.Steps.{InRange}
+use Rattle.blocks.specs.Kind.{RedstoneTorch, Repeater, Comparator}
+use Rattle.world.specs.Rows.{rows, byteOf, posOf, kindOf, poweredOf, isPowered}
+use Rattle.refusals.specs.declared.Checked.{Checked}
+use Rattle.refusals.specs.declared.Checked.the-variants.{Accepted, Refused}
+use Rattle.refusals.specs.Good.{goodProfile}
+use Rattle.refusals.specs.Check.{refuseUnless, refuseAt, isBad, isMisplaced, checkRows, checkTable, checkInput}
+use Rattle.refusals.proofs.Accepted.{accepted-input, in-range}
+use Rattle.electrical.specs.Answer.{roundsOf, settled}
+use Rattle.electrical.proofs.Demand.{rounds-range, settled-bounded}
+use Rattle.devices.specs.Fresh.{freshDevice}
+use Rattle.sim.specs.State.{freshDevices}
+use Rattle.report.specs.Text.{ascii, signedText, rowOf, profileOf, tableOf, lineOf, rowText, refusalText, textOf, settledText, runText, checkRun, settleText, room}
+use Rattle.report.proofs.Digits.{decimal-few}
+use Rattle.report.proofs.Run.{run-accepted, run-refused, crowded-text, whole-text}
+
+-- ---- lines
+
+signed-few : (z : ℤ) → mag z ≤ 1000000 → length (signedText z) ≤ 8
+unfolding signedText
+signed-few (pos n) h = omega (arith, decimal-few n 6 (omega arith))
+signed-few (negsuc n) h = omega (arith, decimal-few (suc n) 6 (omega arith))
+
+row-few : (q : Pos) (signal weak strong : ℕ) → InRange q → signal ≤ 255 → weak ≤ 255 → strong ≤ 255 → length (rowText q signal weak strong) ≤ 43
+unfolding rowText
+row-few q signal weak strong r hs hw hg =
+    simp length-append
+    (omega (
+      arith,
+      signed-few (q .x) (r .x),
+      signed-few (q .y) (r .y),
+      signed-few (q .z) (r .z),
+      decimal-few signal 2 (omega arith),
+      decimal-few weak 2 (omega arith),
+      decimal-few strong 2 (omega arith),
+    ))
+
+line-few : (name : Bytes) (n : ℕ) → n < 10000 → length (lineOf name n) ≤ length name + 5
+unfolding lineOf
+line-few name n h = simp length-append (omega (arith, decimal-few n 3 h))
+
+module _ (w : ℕ) (f : ℕ → Bytes) where
+  from-few : (n i : ℕ) → ((k : ℕ) → k < n → length (f (i + k)) ≤ w) → length (joinedFrom i n f) ≤ n * w
+  unfolding joinedFrom
+  from-few zero i h = zero-le
+  from-few (suc n) i h =
+      let first : length (f i) ≤ w = rw (add-zero i) at (h 0 (omega arith)) in
+      let rest : length (joinedFrom (suc i) n f) ≤ n * w =
+      from-few n (suc i) (λ k l. let e : suc i + k ≡ i + suc k = omega arith in rw e (h (suc k) (omega arith))) in
+      rw (length-append, suc-mul) (omega arith)
+
+  joined-few : (n : ℕ) → ((k : ℕ) → k < n → length (f k) ≤ w) → length (joined n f) ≤ n * w
+  joined-few n h = from-few n 0 (λ k l. rw (zero-add k) (h k l))
+
+-- ---- the text of an accepted table
+
+module _ (t : Bytes) (bytes : (i : ℕ) → getD t i 0 ≤ 255) where
+  chosen : (b : Bool) {x y : ℕ} → x ≤ 255 → y ≤ 255 → cond b x y ≤ 255
+  chosen true g h = g
+  chosen false g h = h
+
+  fresh-byte : (i : ℕ) → freshDevice t i ≤ 255
+  unfolding freshDevice
+  fresh-byte i =
+      chosen (eqb (kindOf t i) Repeater) (chosen (isPowered t i) {x = 1} (omega arith) zero-le)
+      (chosen (eqb (kindOf t i) RedstoneTorch) (chosen (eqb (poweredOf t i) 1) {y = 1} zero-le (omega arith))
+      (chosen (eqb (kindOf t i) Comparator)
+      (chosen (eqb (byteOf t i 15) 1) (bytes (i * 32 + 16)) (chosen (isPowered t i) {x = 15} (omega arith) zero-le))
+      zero-le))
+
+  devices-byte : (i : ℕ) → row (freshDevices t) i ≤ 255
+  unfolding freshDevices
+  devices-byte i =
+      by-cases (decLt i (rows t)) (λ l. rw (row-tabulate (rows t) (freshDevice t) i l) (fresh-byte i))
+      (λ n.
+      let past : length (tabulate (rows t) (freshDevice t)) ≤ i = rw (length-tabulate (rows t) 0 (freshDevice t)) (omega arith) in
+      rw (List·getD-eq-default (tabulate (rows t) (freshDevice t)) 0 past) zero-le)
+
+  settled-few : (p : Bytes) → checkInput p t ≡ Accepted → length (runText p t) ≤ room
+  unfolding runText settledText
+  settled-few p h =
+      let d = freshDevices t in
+      let s = settled p t d in
+      let table = accepted-input p t h .1 in
+      let level = settled-bounded p t d 255 (omega arith) devices-byte in
+      let lines = joined-few 43 (rowOf t (s .signal) (s .weak) (s .strong)) (rows t)
+      (λ i l. row-few (posOf t i) _ _ _ (in-range t table i l) (level .signal i) (level .weak i) (level .strong i)) in
+      rw (length-append, length-append)
+      (omega (arith, lines, table .few, line-few (ascii "blocks=") (rows t) (omega (arith, table .few)), line-few (ascii "rounds=") (roundsOf p t d) (omega (arith, rounds-range p t d))))
+
+-- ---- the text of a refusal
+
+-- a refusal's number and row are small
+abbrev Small : Checked → Type 0
+Small Accepted = Unit {0}
+Small (Refused n i) = (n ≤ 9) × (i ≤ 1024)
+
+small-unless : (n : ℕ) (b : Bool) (next : Checked) → n ≤ 9 → (b ≡ true → Small next) → Small (refuseUnless n b next)
+small-unless n true next h g = g refl
+small-unless n false next h g = (h, zero-le)
+
+small-at : (n d : ℕ) (f : Found) (next : Checked) → n ≤ 9 → ((k : ℕ) → f ≡ At k → k + d ≤ 1024) → Small next → Small (refuseAt n d f next)
+small-at n d (At k) next h g m = (h, g k refl)
+small-at n d Nothing next h g m = m
+
+small-input : (p t : Bytes) → Small (checkInput p t)
+unfolding checkInput checkTable checkRows
+small-input p t =
+    small-unless 1 (goodProfile p) _ (omega arith)
+    (λ _.
+    small-unless 2 (eqb (length t % 32) 0) _ (omega arith)
+    (λ _.
+    small-unless 3 (leb (rows t) 1024) _ (omega arith)
+    (λ few.
+    small-at 4 0 (firstFrom (isBad t) (rows t) 0) _ (omega arith)
+    (λ k e. omega (arith, first-at (isBad t) (rows t) 0 k e .inside, leb-true (rows t) 1024 few))
+    (small-at 5 1 (firstFrom (isMisplaced t) (rows t - 1) 0) Accepted (omega arith)
+    (λ k e. omega (arith, first-at (isMisplaced t) (rows t - 1) 0 k e .inside, leb-true (rows t) 1024 few))
+    tt))))
+
+refusal-few : (n i : ℕ) → n ≤ 9 → i ≤ 1024 → length (refusalText n i) ≤ room
+unfolding refusalText
+refusal-few n i g h =
+    rw length-append (omega (arith, line-few (ascii "refusal=") n (omega arith), line-few (ascii "place=") i (omega arith)))
+
+-- ---- the text of the whole input
+
+run-fits : (p t : Bytes) → ((i : ℕ) → getD t i 0 ≤ 255) → length (textOf (checkRun p t) (runText p t)) ≤ room
+run-fits p t bytes = go (checkInput p t) refl (small-input p t)
+  where
+    go : (c : Checked) → checkInput p t ≡ c → Small c → length (textOf (checkRun p t) (runText p t)) ≤ room
+    go Accepted e s = rw (run-accepted p t e) (settled-few t bytes p e)
+    go (Refused n i) e s = rw (run-refused p t e) (refusal-few n i (s .0) (s .1))
+
+pub text-fits : (input : Bytes) → ((i : ℕ) → getD input i 0 ≤ 255) → length (settleText input) ≤ room
+text-fits input bytes =
+    by-cases (decLt 32781 (length input)) (λ l. rw (crowded-text input l) (refusal-few 3 0 (omega arith) (omega arith)))
+    (λ n.
+    rw (whole-text input (omega arith))
+    (run-fits (profileOf input) (tableOf input) (λ i. rw (getD-drop 13 input i 0) (bytes (13 + i)))))

@@ -1,0 +1,70 @@
+-- Laws of a run of the program: which refusal falls on it. The fresh devices are always valid, and limit 128 is never too low.
+-- Assumes nothing.
+use mathlib.Core.Path.{_≡_}
+use Prim.Native.Nat.{ℕ, _≤_, _<_}
+use native.Mathlib.Omega.{arith}
+use lib.ListN.{length, take, replicate, length-take, length-replicate}
+use lib.Seq.{length-take-le}
+use borrow.Author.Tests.{eq-eqb, ne-eqb, le-leb, lt-leb}
+use Rattle.columns.specs.Column.{Bytes}
+use Rattle.world.specs.Rows.{rows}
+use Rattle.refusals.specs.declared.Checked.the-variants.{Accepted, Refused}
+use Rattle.refusals.specs.Good.{goodProfile}
+use Rattle.refusals.specs.Check.{checkInput}
+use Rattle.refusals.proofs.Accepted.{accepted-input}
+use Rattle.electrical.specs.Answer.{checkCall, checkSettle}
+use Rattle.electrical.proofs.Demand.{never-unsettled}
+use Rattle.sim.specs.State.{freshDevices}
+use Rattle.sim.proofs.Valid.{fresh-devices-valid}
+use Rattle.sim.specs.Calls.{checkFresh}
+use Rattle.report.specs.Text.{refusalText, textOf, profileOf, tableOf, checkRun, checkWhole, runText, settleText}
+use Rattle.report.specs.Put.{Lent}
+
+-- ---- what falls on a run
+
+module _ (p t : Bytes) where
+  pub run-accepted : checkInput p t ≡ Accepted → checkRun p t ≡ Accepted
+  unfolding checkRun
+  run-accepted h = never-unsettled p t (freshDevices t) h (fresh-devices-valid t) 128 (omega arith)
+
+  pub run-refused : {n i : ℕ} → checkInput p t ≡ Refused n i → checkRun p t ≡ Refused n i
+  unfolding checkRun checkSettle checkCall
+  run-refused h = rw h
+
+  -- a table that is accepted has few rows, and fresh settles it in columns of one entry a row
+  pub run-few : checkInput p t ≡ Accepted → rows t ≤ 1024
+  run-few h = accepted-input p t h .1 .few
+
+  pub fresh-accepted : {state signal weak strong : Bytes} → checkInput p t ≡ Accepted → Lent (rows t) state signal weak strong
+      → checkFresh p t (length state) (length signal) (length weak) (length strong) ≡ Accepted
+  unfolding checkFresh
+  fresh-accepted h l =
+      rw (h, eq-eqb _ _ (l .states), eq-eqb _ _ (l .signals), eq-eqb _ _ (l .weaks), eq-eqb _ _ (l .strongs))
+
+-- ---- the text of the whole input
+
+module _ (input : Bytes) where
+  pub crowded-text : 32781 < length input → settleText input ≡ refusalText 3 0
+  unfolding settleText checkWhole
+  crowded-text h = rw (lt-leb (length input) 32781 h)
+
+  -- fewer than 13 bytes are no profile
+  short-profile : length input < 13 → checkInput (profileOf input) (tableOf input) ≡ Refused 1 0
+  unfolding checkInput goodProfile
+  short-profile h =
+      let short : length (profileOf input) ≡ 13 → ⊥ = λ e. omega (arith, e, length-take 13 input) in
+      rw (ne-eqb (length (profileOf input)) 13 short)
+
+  pub short-text : length input < 13 → settleText input ≡ refusalText 1 0
+  unfolding settleText checkWhole
+  short-text h = rw (le-leb (length input) 32781 (omega arith), run-refused (profileOf input) (tableOf input) (short-profile h))
+
+  pub whole-text : length input ≤ 32781 → settleText input ≡ textOf (checkRun (profileOf input) (tableOf input)) (runText (profileOf input) (tableOf input))
+  unfolding settleText checkWhole
+  whole-text h = rw (le-leb (length input) 32781 h)
+
+-- ---- the arrays
+
+-- a part of an array of zeros is as long as was asked
+pub lent : (n m : ℕ) → n ≤ m → length {A = ℕ} (take n (replicate m 0)) ≡ n
+lent n m h = length-take-le n (replicate m 0) (rw length-replicate h)

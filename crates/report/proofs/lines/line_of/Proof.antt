@@ -1,0 +1,48 @@
+-- `report::lines::line_of` meets its contract. Assumes nothing.
+use native.Mathlib.Omega.{arith}
+use borrow.Author.Needs.{needs}
+use Rattle.report.specs.Text.{rowText}
+use Rattle.report.proofs.Putting.{puts-then}
+use Rattle.report.proofs.lines.line_of.Statement.{statement}
+use Rattle.report.proofs.lines.line_of.Tie as tie
+
+pos-of-requires : tie.Need-pos-of-requires
+pos-of-requires c κs = search needs
+
+place-requires : tie.Need-place-requires
+place-requires c κs = search needs
+
+byte-at-requires : tie.Need-byte-at-requires
+byte-at-requires c κs = search needs
+
+byte-at-requires-2 : tie.Need-byte-at-requires-2
+byte-at-requires-2 c κs = search needs
+
+byte-at-requires-3 : tie.Need-byte-at-requires-3
+byte-at-requires-3 c κs = search needs
+
+levels-requires : tie.Need-levels-requires
+levels-requires c κs = search needs
+
+same-length : tie.Need-same-length
+same-length c = search needs
+
+returns : tie.Need-returns
+unfolding rowText
+returns c =
+    let first = rw (c .before .before .before .before .before .before .before .before .before .before .pos-of .ensures) at (c .before .before .before .before .before .before .before .before .before .place .ensures) in
+    let second = rw (c .before .before .before .before .before .byte-at .ensures, c .before .before .before .before .byte-at2 .ensures, c .before .before .before .byte-at3 .ensures) at (c .before .before .levels .ensures) in
+    (puts-then (first .0) (second .0), omega (arith, first .1, second .1))
+
+pub line-of-spec : {M : Type 1} → statement M
+line-of-spec =
+    tie.close
+    (tie.spec
+    pos-of-requires
+    place-requires
+    byte-at-requires
+    byte-at-requires-2
+    byte-at-requires-3
+    levels-requires
+    same-length
+    returns)
