@@ -1,11 +1,17 @@
--- Laws of the loop over all sources: after some of them, the largest level that arrived.
+-- Laws of what arrives from all sources: after some of them, the largest level so far.
 -- Assumes nothing.
-use mathlib.Core.Path.{_≡_, refl, sym, _∙_}
+use mathlib.Core.Path.{_≡_, refl, _∙_}
 use mathlib.Core.Bool.{Bool, true, false, cond}
 use Prim.Native.Nat.{ℕ, _+_, _≤_, _<_, max}
 use native.Mathlib.Omega.{arith}
+use Rattle.columns.specs.Column.{Bytes}
+use Rattle.columns.proofs.Truth.{and-false-left}
 use Rattle.network.specs.Levels.{arriving}
 use Rattle.network.specs.Laws.Gather.{arriving-next}
+use Rattle.electrical.specs.Edges.{strongly, through, lights, drives}
+use Rattle.gather.specs.declared.arrivals.Edge.{Edge}
+use Rattle.gather.specs.declared.arrivals.Edge.the-variants.{Strongly, Through, Lights, Drives}
+use Rattle.gather.specs.Arrivals.{reaches, receives}
 
 module _ (n : ℕ) (edge : ℕ → ℕ → Bool) (f : ℕ → ℕ) (i : ℕ) {best : ℕ} (h : best ≡ arriving n edge f i) where
   next : (b : Bool) → edge n i ≡ b → {x : ℕ} → x ≡ max best (cond b (f n) 0) → x ≡ arriving (n + 1) edge f i
@@ -26,3 +32,11 @@ module _ (n : ℕ) (edge : ℕ → ℕ → Bool) (f : ℕ → ℕ) (i : ℕ) {be
   -- another that has one is the largest now
   pub arriving-above : best < f n → edge n i ≡ true → f n ≡ arriving (n + 1) edge f i
   arriving-above l e = next true e (omega arith)
+
+-- where nothing can arrive there is no edge
+pub none-reaches : (e : Edge) (p t : Bytes) (i : ℕ) → receives e p t i ≡ false → (j : ℕ) → reaches e p t j i ≡ false
+unfolding strongly through lights drives
+none-reaches Strongly p t i h j = and-false-left _ _ h
+none-reaches Through p t i h j = and-false-left _ _ h
+none-reaches Lights p t i h j = and-false-left _ _ h
+none-reaches Drives p t i h j = and-false-left _ _ h

@@ -1,7 +1,7 @@
 -- The rows from which a dust's level can reach a row: those found at a few positions, in slots of so many a row.
 -- Assumes nothing.
 use mathlib.Core.Bool.{Bool, cond, _&&_}
-use Prim.Native.Nat.{ℕ, _+_, _*_, _-_, _/_, _%_}
+use Prim.Native.Nat.{ℕ, _+_, _-_, _/_, _%_}
 use lib.Dec.{eqb, ltb}
 use Rattle.columns.specs.Column.{Bytes, Column, tabulate}
 use Rattle.columns.specs.First.{onFound}
@@ -9,7 +9,7 @@ use Rattle.columns.specs.declared.Found.{Found}
 use Rattle.blocks.specs.Kind.{isDust}
 use Rattle.places.specs.declared.Pos.{Pos}
 use Rattle.places.specs.Places.{North, East, South, West, beside, above, below}
-use Rattle.world.specs.Rows.{rows, posOf, kindOf}
+use Rattle.world.specs.Rows.{posOf, kindOf}
 use Rattle.world.specs.Traits.{traits}
 use Rattle.wire.specs.Transfer.{transmits}
 use Rattle.electrical.specs.Edges.{under}

@@ -1,18 +1,19 @@
 // What arrives from sources that no round changes.
 use crate::larger;
+use blocks::kind;
 use electrical::edges;
 use electrical::output::component_output_level;
+use world::row::kind_of;
 use world::row::rows;
 use world::traits::redstone_traits;
 ghost use mathlib.Core.Path.{_≡_};
-ghost use Prim.Native.Nat.{ℕ};
 ghost use lib.ListN.{length};
 ghost use Rattle.columns.specs.Column.{row, tabulate};
 ghost use Rattle.network.specs.Levels.{arriving};
 ghost use Rattle.network.specs.Laws.Loop.{unmapped};
 ghost use Rattle.electrical.specs.Emitted.{emittedLevel};
 ghost use Rattle.electrical.specs.Edges.{networkOf};
-ghost use Rattle.gather.specs.Arrivals.{reaches, directAt};
+ghost use Rattle.gather.specs.Arrivals.{reaches, receives, directAt};
 
 // The edges from such sources.
 pub enum Edge {
@@ -33,8 +34,20 @@ fn reaches(edge: Edge, profile: &[u8], table: &[u8], j: usize, i: usize) -> bool
     }
 }
 
-// The largest level that arrives at row i. The edge is asked only of a source above all before it.
-pub fn arriving(edge: Edge, profile: &[u8], table: &[u8], levels: &[u8], i: usize) -> u8
+// Whether anything can arrive at row i by such an edge.
+fn receives(edge: Edge, profile: &[u8], table: &[u8], i: usize) -> bool
+    ensures { λ r. ⌜ r ≡ receives edge (now (profile .entry)) (now (table .entry)) i ⌝ }
+{
+    match edge {
+        Edge::Strongly => redstone_traits(profile, table, i).strong,
+        Edge::Through => redstone_traits(profile, table, i).weak,
+        Edge::Lights => kind_of(table, i) == kind::REDSTONE_WIRE,
+        Edge::Drives => kind_of(table, i) == kind::REDSTONE_WIRE,
+    }
+}
+
+// The largest level that arrives at row i from all sources. The edge is asked only of a source above all before it.
+fn from_all(edge: Edge, profile: &[u8], table: &[u8], levels: &[u8], i: usize) -> u8
     ensures { λ r. ⌜ r ≡ arriving (length (now (levels .entry))) (reaches edge (now (profile .entry)) (now (table .entry))) (row (now (levels .entry))) i ⌝ }
 {
     let mut best = 0;
@@ -49,6 +62,16 @@ pub fn arriving(edge: Edge, profile: &[u8], table: &[u8], levels: &[u8], i: usiz
         j += 1;
     }
     best
+}
+
+// The largest level that arrives at row i.
+pub fn arriving(edge: Edge, profile: &[u8], table: &[u8], levels: &[u8], i: usize) -> u8
+    ensures { λ r. ⌜ r ≡ arriving (length (now (levels .entry))) (reaches edge (now (profile .entry)) (now (table .entry))) (row (now (levels .entry))) i ⌝ }
+{
+    if receives(edge, profile, table, i) {
+        return from_all(edge, profile, table, levels, i);
+    }
+    0
 }
 
 // The largest level that arrives at each row.

@@ -10,9 +10,8 @@ use world::row::kind_of;
 use world::row::pos_of;
 use world::traits::redstone_traits;
 ghost use mathlib.Core.Path.{_≡_};
-ghost use Prim.Native.Nat.{ℕ, _<_};
+ghost use Prim.Native.Nat.{_<_};
 ghost use lib.ListN.{length};
-ghost use Rattle.columns.specs.Column.{tabulate};
 ghost use Rattle.gather.specs.Slots.{aroundFacing, aroundHeight, atHeight, aroundAt, overAt, entryOf, feederAt, underAt, feeders, unders};
 
 // The entry of a slot that is empty.

@@ -1,6 +1,6 @@
 -- Law: the columns as they are filled are the prepared ones.
 -- Assumes nothing.
-use mathlib.Core.Path.{_≡_, refl, _∙_}
+use mathlib.Core.Path.{_≡_, _∙_}
 use mathlib.Core.Bool.{Bool}
 use Prim.Native.Nat.{ℕ}
 use lib.ListN.{length}
@@ -17,7 +17,7 @@ use Rattle.electrical.specs.Answer as Answer
 use Rattle.electrical.specs.Edges.{strongly, through, networkOf}
 use Rattle.gather.specs.Arrivals.{directAt}
 use Rattle.gather.specs.Slots as Slots
-use Rattle.solver.specs.Prepared.{Prepared, Made, Room}
+use Rattle.solver.specs.Prepared.{Made, Room}
 use Rattle.solver.specs.Outcome.{Solves}
 use Rattle.solver.specs.declared.Outcome.{Outcome}
 use Rattle.solver.proofs.Rounds.{made-rows}

@@ -2,13 +2,12 @@
 -- Assumes nothing.
 use mathlib.Core.Path.{_≡_, refl, ap, sym, _∙_}
 use mathlib.Core.Bool.{Bool, true, false, cond}
-use Prim.Native.Nat.{ℕ, _+_, _*_, _-_, _≤_, _<_, min, max}
+use Prim.Native.Nat.{ℕ, _+_, _*_, _≤_, max}
 use native.Mathlib.Omega.{arith}
 use lib.ListN.{length}
 use lib.Dec.{leb}
 use borrow.Author.Tests.{leb-true, le-leb, lt-leb}
 use Rattle.columns.specs.Column.{Bytes, Column, row, tabulate}
-use Rattle.columns.specs.Signal.{maxSignal}
 use Rattle.columns.proofs.Columns.{length-tabulate, row-tabulate, same-rule}
 use Rattle.network.specs.Levels.{arriving}
 use Rattle.network.specs.Network.{Network, strongOf, weakOf, level, signals, nowhere}
@@ -18,7 +17,7 @@ use Rattle.blocks.specs.Kind.{isDust}
 use Rattle.world.specs.Rows.{rows, kindOf}
 use Rattle.refusals.specs.declared.Checked.the-variants.{Accepted}
 use Rattle.refusals.specs.Check.{refuseUnless}
-use Rattle.electrical.specs.Edges.{through, under, lights, drives, networkOf}
+use Rattle.electrical.specs.Edges.{through, lights, drives, networkOf}
 use Rattle.electrical.specs.Answer.{Columns}
 use Rattle.electrical.proofs.Demand.{on-map}
 use Rattle.gather.proofs.Slotted.{arriving-feeders, arriving-unders}

@@ -2,7 +2,7 @@
 -- Assumes nothing.
 use mathlib.Core.Path.{_≡_}
 use mathlib.Core.Bool.{Bool}
-use Prim.Native.Nat.{ℕ, _*_, max}
+use Prim.Native.Nat.{_*_, max}
 use lib.ListN.{length}
 use Rattle.columns.specs.Column.{Bytes, Column, row, tabulate}
 use Rattle.network.specs.Levels.{arriving}

@@ -6,12 +6,10 @@ use gather::larger;
 use world::row::kind_of;
 use world::signal::Signal;
 ghost use mathlib.Core.Path.{_≡_};
-ghost use mathlib.Core.Bool.{Bool};
-ghost use Prim.Native.Nat.{ℕ, _+_, _-_, _*_, _<_, _≤_};
+ghost use Prim.Native.Nat.{_+_, _-_, _*_, _<_, _≤_};
 ghost use lib.ListN.{length};
 ghost use Rattle.columns.specs.Column.{row, tabulate};
 ghost use Rattle.network.specs.Laws.Loop.{repeats};
-ghost use Rattle.world.specs.Rows.{rows};
 ghost use Rattle.solver.specs.Rounds.{slotted, nextSignal, nextWeak, firstSignal};
 
 // The level that is left one cell on.

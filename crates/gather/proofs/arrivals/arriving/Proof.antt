@@ -1,63 +1,23 @@
--- `gather::arrivals::arriving` meets its contract. The loop's invariant: `best` is the largest level that arrives from the first j sources. Assumes nothing.
+-- `gather::arrivals::arriving` meets its contract: nothing arrives where nothing can. Assumes nothing.
 use borrow.Author.Needs.{needs}
-use mathlib.Core.Path.{_≡_, sym, _∙_}
-use mathlib.Core.Logic.{⊎-elim}
-use Prim.Native.Nat.{_-_, _≤_}
-use native.Mathlib.Omega.{arith}
-use lib.ListN.{length}
-use Rattle.columns.specs.Column.{row}
-use Rattle.network.specs.Levels.{arriving}
-use Rattle.network.specs.Laws.Gather.{arriving-start}
-use Rattle.gather.specs.Arrivals.{reaches}
-use Rattle.gather.proofs.Arriving.{arriving-low, arriving-past, arriving-above}
+use mathlib.Core.Path.{sym, _∙_}
+use Rattle.network.specs.Laws.Gather.{arriving-none}
+use Rattle.gather.proofs.Arriving.{none-reaches}
 use Rattle.gather.proofs.arrivals.arriving.Statement.{statement}
 use Rattle.gather.proofs.arrivals.arriving.Tie as tie
 
-abbrev Inv-loop : tie.InvT-loop
-Inv-loop edge profile table levels i best₀ j₀ best j = (j ≤ length levels) × (best ≡ arriving j (reaches edge profile table) (row levels) i)
+receives-requires : tie.Need-receives-requires
+receives-requires c κs = search needs
 
-abbrev μ-loop : tie.MeasureT-loop
-μ-loop edge profile table levels i best₀ j₀ best j = length levels - j
+from-all-requires : tie.Need-from-all-requires
+from-all-requires c κs = search needs
 
-loop-holds : tie.Need-loop-holds Inv-loop μ-loop
-loop-holds c = (omega arith, sym (arriving-start _ _ _))
+returns : tie.Need-returns
+returns c = c .from-all .ensures
 
-shared-slice-read-level : tie.Need-shared-slice-read-level Inv-loop μ-loop
-shared-slice-read-level c = search needs
-
-reaches-requires : tie.Need-reaches-requires Inv-loop μ-loop
-reaches-requires c κs = search needs
-
-add-j : tie.Need-add-j Inv-loop μ-loop
-add-j c = search needs
-
-loop-less : tie.Need-loop-less Inv-loop μ-loop
-loop-less c = search needs
-
-loop-again : tie.Need-loop-again Inv-loop μ-loop
-loop-again c = let l = c .before .before .before .loop in
-    let a = c .before .before .before .before .before .before .before .args in
-    let g : _ ≡ arriving (l .j) (reaches (a .edge) (a .profile .now) (a .table .now)) (row (a .levels .now)) (a .i) = l .inv .1 in (
-      omega arith,
-      ⊎-elim (λ w. w .3 ∙ arriving-above _ _ _ _ g (w .0 .taken) (sym (w .1 .ensures) ∙ w .2 .taken))
-          (⊎-elim (λ w. w .3 ∙ arriving-past _ _ _ _ g (sym (w .1 .ensures) ∙ w .2 .left)) (λ w. w .1 ∙ arriving-low _ _ _ _ g (w .0 .left)))
-          (c .if1 .came),
-    )
-
-returns : tie.Need-returns Inv-loop μ-loop
-returns c = let full : c .before .loop .j ≡ length (c .before .before .before .before .before .args .levels .now) = omega arith in
-    rw full at (c .before .loop .inv .1)
+returns-2 : tie.Need-returns-2
+returns-2 c = let a = c .before .before .before .before .before .args in
+    sym (arriving-none _ _ _ (a .i) (λ j l. none-reaches (a .edge) (a .profile .now) (a .table .now) (a .i) (sym (c .before .receives .ensures) ∙ c .if1 .left) j))
 
 pub arriving-spec : {M : Type 1} → statement M
-arriving-spec =
-    tie.close
-    (tie.spec
-    Inv-loop
-    μ-loop
-    loop-holds
-    shared-slice-read-level
-    reaches-requires
-    add-j
-    loop-less
-    loop-again
-    returns)
+arriving-spec = tie.close (tie.spec receives-requires from-all-requires returns returns-2)

@@ -1,5 +1,4 @@
 -- `gather::slots::around_facing` meets its contract. Assumes nothing.
-use borrow.Author.Needs.{needs}
 use borrow.Author.Tests.{lt-ltb, le-ltb, eq-eqb, ne-eqb}
 use Rattle.gather.proofs.slots.around_facing.Statement.{statement}
 use Rattle.gather.proofs.slots.around_facing.Tie as tie

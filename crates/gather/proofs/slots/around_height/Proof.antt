@@ -1,6 +1,5 @@
 -- `gather::slots::around_height` meets its contract. Assumes nothing.
-use borrow.Author.Needs.{needs}
-use borrow.Author.Tests.{lt-ltb, le-ltb, eq-eqb, ne-eqb}
+use borrow.Author.Tests.{lt-ltb, le-ltb}
 use Rattle.gather.proofs.slots.around_height.Statement.{statement}
 use Rattle.gather.proofs.slots.around_height.Tie as tie
 

@@ -1,6 +1,6 @@
 -- `gather::slots::at_height` meets its contract. Assumes nothing.
 use borrow.Author.Needs.{needs}
-use borrow.Author.Tests.{lt-ltb, le-ltb, eq-eqb, ne-eqb}
+use borrow.Author.Tests.{ne-eqb}
 use Rattle.gather.proofs.slots.at_height.Statement.{statement}
 use Rattle.gather.proofs.slots.at_height.Tie as tie
 

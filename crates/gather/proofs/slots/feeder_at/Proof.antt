@@ -1,6 +1,5 @@
 -- `gather::slots::feeder_at` meets its contract, by what the look-up finds. Assumes nothing.
 use borrow.Author.Needs.{needs}
-use mathlib.Core.Path.{sym, _∙_}
 use borrow.Author.Tests.{eq-eqb, ne-eqb}
 use Rattle.gather.specs.Slots.{slotOf, feederAt}
 use Rattle.gather.proofs.slots.feeder_at.Statement.{statement}

@@ -1,6 +1,6 @@
 -- `gather::slots::over_at` meets its contract. Assumes nothing.
 use borrow.Author.Needs.{needs}
-use borrow.Author.Tests.{lt-ltb, le-ltb, eq-eqb, ne-eqb}
+use borrow.Author.Tests.{lt-ltb, le-ltb}
 use Rattle.gather.specs.Slots.{overAt}
 use Rattle.gather.proofs.slots.over_at.Statement.{statement}
 use Rattle.gather.proofs.slots.over_at.Tie as tie

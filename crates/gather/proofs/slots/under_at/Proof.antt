@@ -1,6 +1,5 @@
 -- `gather::slots::under_at` meets its contract, by what the look-up finds. Assumes nothing.
 use borrow.Author.Needs.{needs}
-use mathlib.Core.Path.{sym, _∙_}
 use borrow.Author.Tests.{not-true, not-false}
 use Rattle.gather.specs.Slots.{slotOf, underAt}
 use Rattle.gather.proofs.slots.under_at.Statement.{statement}

@@ -1,10 +1,8 @@
 -- `solver::round::largest` meets its contract. The loop's invariant: `best` is the largest level in the k slots passed. Assumes nothing.
 use borrow.Author.Needs.{needs}
 use mathlib.Core.Path.{_≡_, sym, _∙_}
-use Prim.Native.Nat.{ℕ, _+_, _-_, _≤_, max}
+use Prim.Native.Nat.{_-_, _≤_}
 use native.Mathlib.Omega.{arith}
-use Rattle.columns.specs.Column.{Column, row}
-use Rattle.network.specs.Levels.{top}
 use Rattle.gather.proofs.Levels.{top-none, top-more}
 use Rattle.solver.specs.Rounds.{slotted}
 use Rattle.solver.proofs.round.largest.Statement.{statement}

@@ -1,17 +1,11 @@
 -- `solver::settle::run` meets its contract. The loop's invariant: none of the rounds so far answered, and s0 and w0 are what they left. Assumes nothing.
 use borrow.Author.Needs.{needs}
-use mathlib.Core.Path.{_≡_, refl, ap, sym, _∙_}
-use mathlib.Core.Bool.{true, false}
-use Prim.Native.Nat.{ℕ, _+_, _-_, _*_, _≤_}
+use mathlib.Core.Path.{refl, ap, sym, _∙_}
+use Prim.Native.Nat.{_*_}
 use native.Mathlib.Omega.{arith}
 use lib.ListN.{length}
-use Rattle.columns.specs.Column.{Bytes, Column}
-use Rattle.columns.proofs.Columns.{length-tabulate}
-use Rattle.network.specs.Network.{nowhere, strongOf}
-use Rattle.network.specs.Laws.Loop.{Going, Gone}
-use Rattle.world.specs.Rows.{rows}
+use Rattle.network.specs.Network.{nowhere}
 use Rattle.electrical.specs.Edges.{networkOf}
-use Rattle.solver.specs.Prepared.{Prepared}
 use Rattle.solver.proofs.Rounds.{Turning, made-rows, base-rows, direct-rows, feeders-rows, unders-rows, starts, stops, goes-on, ran-settled, ran-unsettled}
 use Rattle.solver.proofs.settle.run.Statement.{statement}
 use Rattle.solver.proofs.settle.run.Tie as tie

@@ -1,6 +1,6 @@
 -- `solver::settle::settle_in` meets its contract. Assumes nothing.
 use lib.ListN.{length}
-use mathlib.Core.Path.{_≡_, refl, ap, sym, _∙_}
+use mathlib.Core.Path.{refl, ap, sym, _∙_}
 use Rattle.columns.specs.Column.{tabulate}
 use Rattle.network.specs.Network.{strongOf}
 use Rattle.electrical.specs.Edges.{networkOf}

@@ -1,6 +1,5 @@
 -- `solver::settle::write` meets its contract, by how settling ended. Assumes nothing.
 use borrow.Author.Needs.{needs}
-use mathlib.Core.Path.{_≡_, sym, _∙_}
 use Rattle.solver.proofs.settle.write.Statement.{statement}
 use Rattle.solver.proofs.settle.write.Tie as tie
 
