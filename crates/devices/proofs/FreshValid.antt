@@ -17,8 +17,8 @@ use Rattle.world.specs.Rows.{kindOf, poweredOf, isPowered}
 use Rattle.electrical.specs.Emitted.{goodDevice}
 use Rattle.devices.specs.Row.{delayOf, bitsSet, isCandidate, goodQueue, goodLamp, goodTorch, goodState}
 use Rattle.devices.specs.Fresh.{freshDevice, freshQueue, hasPower, freshLamp, freshRow}
-use Rattle.devices.proofs.Bits.{delay-range}
-use Rattle.devices.proofs.Valid.{Parts, whole}
+use Rattle.devices.proofs.Powers.{delay-range}
+use Rattle.devices.proofs.Valid.{whole}
 
 -- a choice of 1 or 0 is at most 1
 one-or-none : (b : Bool) → leb (cond b 1 0) 1 ≡ true

@@ -2,8 +2,8 @@
 -- Assumes nothing.
 use mathlib.Core.Path.{_≡_, refl, sym, subst}
 use mathlib.Core.Logic.{by-cases}
-use mathlib.Core.Bool.{Bool, true, false, cond, not, _&&_, _||_}
-use mathlib.Core.List.{[], _∷_}
+use mathlib.Core.Bool.{Bool, true, false, not, _&&_, _||_}
+use mathlib.Core.List.{_∷_}
 use Prim.Native.Nat.{ℕ, zero, suc, _+_, _*_, _-_, _/_, _%_, _^_, _≤_, _<_, max}
 use native.Mathlib.Nat.{pow-suc}
 use native.Mathlib.Decide.{ℕ-discrete}
@@ -18,10 +18,10 @@ use Rattle.network.specs.Network.{State}
 use Rattle.blocks.specs.Kind.{RedstoneTorch, Repeater, Comparator, RedstoneLamp}
 use Rattle.world.specs.Rows.{kindOf}
 use Rattle.electrical.specs.Emitted.{goodDevice}
-use Rattle.devices.specs.Row.{deviceOf, togglesOf, candidateOf, delayOf, isCandidate, goodQueue, goodLamp, goodTorch, goodRest, goodState}
+use Rattle.devices.specs.Row.{deviceOf, delayOf, isCandidate, goodQueue, goodLamp, goodTorch, goodRest, goodState}
 use Rattle.devices.specs.Fresh.{hasPower}
 use Rattle.devices.specs.Step.{number, isRequested, isLocked, nextQueue, repeaterRow, torchSupportIsPowered, nextTorch, nextToggles, nextCandidate, torchRow, nextComparator, deviceRow, nextLit, nextLeft, lampRow}
-use Rattle.devices.proofs.Bits.{delay-range}
+use Rattle.devices.proofs.Powers.{delay-range}
 
 -- ---- the five tests of a row
 

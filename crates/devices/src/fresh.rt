@@ -1,8 +1,8 @@
 // The fresh state of a row.
+use crate::bits::two_to;
 use crate::level::has_power;
 use crate::level::number;
 use crate::row::delay_of;
-use crate::row::two_to;
 use blocks::kind;
 use world::row::is_powered;
 use world::row::kind_of;
@@ -11,7 +11,7 @@ use world::row::powered_of;
 use world::signal::Signal;
 ghost use mathlib.Core.Path.{_≡_};
 ghost use mathlib.Core.Bool.{cond};
-ghost use Prim.Native.Nat.{_≤_, _<_};
+ghost use Prim.Native.Nat.{_<_};
 ghost use lib.ListN.{length, replicate};
 ghost use Rattle.columns.specs.Signal.{maxSignal};
 ghost use Rattle.devices.specs.Fresh.{powersOf, freshDevice, freshQueue, freshLamp, freshRow};

@@ -1,4 +1,5 @@
 // One row's sixteen bytes of state: whether they are valid, the fresh ones, and what a tick makes of them.
+mod bits;
 mod comparator;
 pub mod fresh;
 mod lamp;

@@ -1,7 +1,7 @@
 // A repeater's step.
+use crate::bits::two_to;
 use crate::level::power_at;
 use crate::row::delay_of;
-use crate::row::two_to;
 use columns::Found;
 use columns::byte_at;
 use connectivity::Sides;
@@ -11,7 +11,7 @@ use world::find::find;
 use world::find::find_at;
 use world::row::kind_of;
 ghost use mathlib.Core.Path.{_≡_};
-ghost use Prim.Native.Nat.{_≤_, _<_};
+ghost use Prim.Native.Nat.{_≤_};
 ghost use lib.ListN.{length};
 ghost use Rattle.columns.specs.Column.{Bytes};
 ghost use Rattle.devices.specs.Fresh.{numbersOf};

@@ -1,12 +1,13 @@
 // The fields of a row's sixteen bytes, and which values are within the layout.
+use crate::bits::is_candidate;
+use crate::bits::two_to;
 use blocks::kind;
 use columns::byte_at;
 use electrical::device::good_device;
 use world::row::kind_of;
 ghost use mathlib.Core.Path.{_≡_};
-ghost use Prim.Native.Nat.{_+_, _*_, _^_, _≤_, _<_};
-ghost use lib.ListN.{getD};
-ghost use Rattle.devices.specs.Row.{togglesOf, delayOf, isCandidate, goodQueue, goodLamp, goodTorch, goodRest, goodState};
+ghost use Prim.Native.Nat.{_<_};
+ghost use Rattle.devices.specs.Row.{togglesOf, delayOf, goodQueue, goodLamp, goodTorch, goodRest, goodState};
 
 // A byte as a word.
 fn wide(b: u8) -> u32
@@ -29,14 +30,6 @@ pub fn delay_of(table: &[u8], row: usize) -> u8
     given
 }
 
-// How many queues of this many bits there are.
-pub fn two_to(bits: u8) -> u8
-    requires { ⌜ bits ≤ 4 ⌝ }
-    ensures { λ r. ⌜ (r ≡ 2 ^ bits) × (r ≤ 16) ⌝ }
-{
-    1 << bits
-}
-
 // The torch's toggles: bit j for a toggle j ticks ago.
 pub fn toggles_of(sixteen: &[u8]) -> u32
     ensures { λ r. ⌜ r ≡ togglesOf (now (sixteen .entry)) ⌝ }
@@ -45,13 +38,6 @@ pub fn toggles_of(sixteen: &[u8]) -> u32
         + wide(byte_at(sixteen, 5)) * 256
         + wide(byte_at(sixteen, 6)) * 65536
         + wide(byte_at(sixteen, 7)) * 16777216
-}
-
-// Whether eight or more of the 31 toggle bits are set.
-pub fn is_candidate(toggles: u32) -> bool
-    ensures { λ r. ⌜ r ≡ isCandidate toggles ⌝ }
-{
-    8 <= u32::count_ones(toggles % 2147483648)
 }
 
 fn good_queue(table: &[u8], row: usize, sixteen: &[u8]) -> bool

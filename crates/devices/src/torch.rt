@@ -1,14 +1,12 @@
 // A torch's step.
+use crate::bits::is_candidate;
 use crate::level::has_power;
 use crate::level::larger;
 use crate::level::number;
-use crate::row::is_candidate;
 use crate::row::toggles_of;
 use columns::Found;
 use world::find::find_at;
 ghost use mathlib.Core.Path.{_≡_};
-ghost use mathlib.Core.Bool.{not};
-ghost use Prim.Native.Nat.{_≤_, _<_};
 ghost use lib.ListN.{length};
 ghost use Rattle.devices.specs.Fresh.{powersOf};
 ghost use Rattle.devices.specs.Step.{torchSupportIsPowered, nextToggles, nextCandidate, setToggles, torchRow};

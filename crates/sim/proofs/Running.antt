@@ -1,12 +1,10 @@
 -- Laws of a call while it runs: what settling leaves, and one tick and many in the code's steps.
 -- Assumes nothing.
-use mathlib.Core.Path.{_≡_, refl, ap, sym, _∙_}
-use Prim.Native.Nat.{ℕ, _+_, _*_, _≤_}
-use native.Mathlib.Omega.{arith}
+use mathlib.Core.Path.{_≡_, ap, sym, _∙_}
+use Prim.Native.Nat.{ℕ, _+_}
 use lib.ListN.{length}
 use borrow.Author.Tests.{eq-eqb, le-leb}
 use Rattle.columns.specs.Column.{Bytes, Column}
-use Rattle.world.specs.Rows.{rows}
 use Rattle.refusals.specs.declared.Checked.the-variants.{Accepted}
 use Rattle.refusals.specs.Check.{IsAccepted}
 use Rattle.electrical.specs.Emitted.{IsValid}

@@ -2,7 +2,7 @@
 -- state stay valid.
 -- Assumes nothing.
 use mathlib.Core.Path.{_≡_, refl, ap, sym, _∙_}
-use mathlib.Core.Logic.{inl, inr, ⊎-elim, by-cases}
+use mathlib.Core.Logic.{⊎-elim, by-cases}
 use mathlib.Core.Bool.{Bool, true, false, cond, _&&_}
 use Prim.Native.Nat.{ℕ, _+_, _*_, _-_, _%_, _≤_, _<_}
 use native.Mathlib.Decide.{ℕ-discrete, decLt}
@@ -10,7 +10,7 @@ use native.Mathlib.Omega.{arith}
 use lib.ListN.{length, getD, set, length-set}
 use lib.Seq.{getD-set-same, getD-set-other, set-out}
 use lib.Dec.{eqb, leb}
-use borrow.Author.Tests.{leb-true, le-leb, eq-eqb}
+use borrow.Author.Tests.{le-leb, eq-eqb}
 use Rattle.columns.specs.declared.Found.{Found}
 use Rattle.columns.specs.declared.Found.the-variants.{At, Nothing}
 use Rattle.columns.specs.Column.{Bytes, Column, tabulate}
@@ -18,7 +18,7 @@ use Rattle.columns.specs.First.{onFound}
 use Rattle.columns.proofs.Truth.{and-true}
 use Rattle.columns.proofs.First.{none-first}
 use Rattle.places.specs.declared.Pos.{Pos}
-use Rattle.world.specs.Rows.{rows, byteOf, posOf, kindOf}
+use Rattle.world.specs.Rows.{rows, byteOf, posOf}
 use Rattle.world.specs.Find.{find}
 use Rattle.refusals.specs.declared.Checked.the-variants.{Accepted}
 use Rattle.refusals.specs.Good.{goodPlace, goodKind, goodValue, goodSupport, goodArms, goodTail, goodRow}

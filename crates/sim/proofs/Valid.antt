@@ -1,6 +1,6 @@
 -- Laws of valid states: what the check says of one, that a tick keeps it valid, that the fresh state is valid, and that its devices are.
 -- Assumes nothing.
-use mathlib.Core.Path.{_≡_, _∙_}
+use mathlib.Core.Path.{_≡_}
 use mathlib.Core.Bool.{true}
 use Prim.Native.Nat.{ℕ, zero, suc, _*_, _<_}
 use native.Mathlib.Omega.{arith}

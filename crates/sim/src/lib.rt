@@ -7,8 +7,6 @@ mod state;
 use places::Pos;
 use refusals::Checked;
 use world::row::rows;
-ghost use mathlib.Core.Path.{_≡_};
-ghost use lib.IntN.{ℤ};
 ghost use Rattle.places.specs.Places.{cell};
 ghost use Rattle.sim.specs.Calls.{Fresh, Ticks, Switches};
 

@@ -1,5 +1,4 @@
 -- `devices::lamp_step` meets its contract. Assumes nothing.
-use mathlib.Core.Path.{sym, _∙_}
 use borrow.Author.Tests.{eq-eqb, ne-eqb}
 use Rattle.devices.specs.Step.{lampRow}
 use borrow.Author.Needs.{needs}

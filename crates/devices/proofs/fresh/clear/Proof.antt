@@ -2,7 +2,6 @@
 use mathlib.Core.Path.{refl}
 use Prim.Native.Nat.{_≤_, _-_}
 use native.Mathlib.Omega.{arith}
-use lib.ListN.{length}
 use Rattle.columns.specs.Column.{tabulateFrom}
 use Rattle.columns.proofs.Columns.{Filled, filled-none, filled-more, filled-all}
 use Rattle.devices.proofs.fresh.clear.Statement.{statement}

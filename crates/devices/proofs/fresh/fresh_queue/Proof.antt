@@ -1,12 +1,12 @@
 -- `devices::fresh::fresh_queue` meets its contract. Assumes nothing.
 use mathlib.Core.Path.{_≡_, refl}
 use mathlib.Core.Bool.{Bool, true, false, cond, _&&_, true≢false, false≢true}
-use Prim.Native.Nat.{ℕ, _*_, _-_}
+use Prim.Native.Nat.{ℕ, _*_}
 use native.Mathlib.Omega.{arith}
 use lib.Dec.{eqb}
 use lib.Pow.{pow-pos}
 use Rattle.devices.specs.Fresh.{freshQueue, freshDevice}
-use Rattle.devices.proofs.Bits.{delay-range}
+use Rattle.devices.proofs.Powers.{delay-range}
 use borrow.Author.Needs.{needs}
 use Rattle.devices.proofs.fresh.fresh_queue.Statement.{statement}
 use Rattle.devices.proofs.fresh.fresh_queue.Tie as tie

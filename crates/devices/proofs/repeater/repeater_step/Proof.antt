@@ -1,7 +1,7 @@
 -- `devices::repeater::repeater_step` meets its contract. Assumes nothing.
 use mathlib.Core.Path.{sym, _∙_}
 use Rattle.devices.specs.Step.{repeaterRow}
-use Rattle.devices.proofs.Bits.{delay-range}
+use Rattle.devices.proofs.Powers.{delay-range}
 use borrow.Author.Needs.{needs}
 use Rattle.devices.proofs.repeater.repeater_step.Statement.{statement}
 use Rattle.devices.proofs.repeater.repeater_step.Tie as tie

@@ -1,7 +1,7 @@
 -- `devices::row::good_queue` meets its contract. Assumes nothing.
 use borrow.Author.Tests.{eq-eqb, ne-eqb}
 use Rattle.devices.specs.Row.{goodQueue}
-use Rattle.devices.proofs.Bits.{delay-range}
+use Rattle.devices.proofs.Powers.{delay-range}
 use borrow.Author.Needs.{needs}
 use Rattle.devices.proofs.row.good_queue.Statement.{statement}
 use Rattle.devices.proofs.row.good_queue.Tie as tie

@@ -1,5 +1,4 @@
 -- `devices::torch::torch_step` meets its contract. Assumes nothing.
-use mathlib.Core.Path.{sym, _∙_}
 use native.Mathlib.Omega.{arith}
 use lib.ListN.{length-set}
 use Rattle.devices.specs.Step.{torchRow}

@@ -1,5 +1,5 @@
 -- `sim::run::new_state` meets its contract. Assumes nothing.
-use mathlib.Core.Path.{_≡_, refl, _∙_}
+use mathlib.Core.Path.{refl, _∙_}
 use Rattle.sim.proofs.Running.{room-kept}
 use Rattle.sim.proofs.Valid.{fresh-devices-valid}
 use Rattle.sim.proofs.States.{fresh-read}

@@ -1,5 +1,5 @@
 -- `sim::run::settle` meets its contract: 17 rounds are always enough. Assumes nothing.
-use mathlib.Core.Path.{_≡_, sym, _∙_}
+use mathlib.Core.Path.{_≡_}
 use Prim.Native.Nat.{ℕ}
 use native.Mathlib.Omega.{arith}
 use Rattle.sim.proofs.Running.{call-accepted, solved}

@@ -1,5 +1,5 @@
 -- `sim::run::settle_state` meets its contract. Assumes nothing.
-use mathlib.Core.Path.{_≡_, refl, _∙_}
+use mathlib.Core.Path.{refl}
 use Rattle.sim.proofs.Running.{room-kept, settles}
 use borrow.Author.Needs.{needs}
 use Rattle.sim.proofs.run.settle_state.Statement.{statement}

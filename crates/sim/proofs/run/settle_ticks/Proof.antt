@@ -1,8 +1,7 @@
 -- `sim::run::settle_ticks` meets its contract. The loop's invariant: so many ticks are done. Assumes nothing.
-use mathlib.Core.Path.{_≡_, refl, sym, _∙_}
+use mathlib.Core.Path.{_≡_, sym, _∙_}
 use Prim.Native.Nat.{_-_, _≤_}
 use native.Mathlib.Omega.{arith}
-use lib.ListN.{length}
 use Rattle.sim.specs.Running.{Room}
 use Rattle.sim.proofs.Running.{room-kept, ready, Going, going-none, going-valid, going-long, going-more}
 use Rattle.sim.proofs.run.settle_ticks.Statement.{statement}

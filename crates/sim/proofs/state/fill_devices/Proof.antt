@@ -1,6 +1,6 @@
 -- `sim::state::fill_devices` meets its contract. The loop's invariant: the bytes of the rows passed are there. Assumes nothing.
 use mathlib.Core.Path.{_≡_, sym, _∙_}
-use Prim.Native.Nat.{ℕ, _*_, _-_, _≤_}
+use Prim.Native.Nat.{ℕ, _-_, _≤_}
 use native.Mathlib.Omega.{arith}
 use Rattle.columns.specs.Column.{Bytes}
 use Rattle.columns.proofs.Columns.{Filled, filled-none, filled-more, filled-all}

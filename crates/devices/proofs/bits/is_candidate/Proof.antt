@@ -1,10 +1,10 @@
--- `devices::row::is_candidate` meets its contract. Assumes nothing.
+-- `devices::bits::is_candidate` meets its contract. Assumes nothing.
 use mathlib.Core.Path.{ap}
 use lib.Dec.{leb}
 use Rattle.devices.specs.Row.{isCandidate}
-use Rattle.devices.proofs.Bits.{counted}
-use Rattle.devices.proofs.row.is_candidate.Statement.{statement}
-use Rattle.devices.proofs.row.is_candidate.Tie as tie
+use Rattle.devices.proofs.Powers.{counted}
+use Rattle.devices.proofs.bits.is_candidate.Statement.{statement}
+use Rattle.devices.proofs.bits.is_candidate.Tie as tie
 
 returns : tie.Need-returns
 unfolding isCandidate

@@ -1,9 +1,9 @@
--- `devices::row::two_to` meets its contract. Assumes nothing.
+-- `devices::bits::two_to` meets its contract. Assumes nothing.
 use native.Mathlib.Omega.{arith}
-use Rattle.devices.proofs.Bits.{small-power}
+use Rattle.devices.proofs.Powers.{small-power}
 use borrow.Author.Needs.{needs}
-use Rattle.devices.proofs.row.two_to.Statement.{statement}
-use Rattle.devices.proofs.row.two_to.Tie as tie
+use Rattle.devices.proofs.bits.two_to.Statement.{statement}
+use Rattle.devices.proofs.bits.two_to.Tie as tie
 
 shl-result : tie.Need-shl-result
 shl-result c = search needs

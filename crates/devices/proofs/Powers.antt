@@ -1,12 +1,12 @@
 -- Laws of queue bits and toggle bits.
 -- Assumes nothing.
-use mathlib.Core.Path.{_≡_, refl, ap, ap₂, sym, _∙_}
-use Prim.Native.Nat.{ℕ, zero, suc, _+_, _*_, _/_, _%_, _^_, _≤_, _<_}
+use mathlib.Core.Path.{_≡_, refl, ap, ap₂, _∙_}
+use Prim.Native.Nat.{ℕ, zero, suc, _+_, _/_, _%_, _^_, _≤_, _<_}
 use native.Mathlib.Nat.{pow-suc}
 use native.Mathlib.Numerals.{add-one}
 use native.Mathlib.Omega.{arith}
 use lib.Count.{ones, ones-step}
-use lib.Pow.{mod-mod-pow, field, pow-pos}
+use lib.Pow.{mod-mod-pow, field}
 use Rattle.columns.specs.Column.{Bytes}
 use Rattle.devices.specs.Row.{delayOf, bitsSet}
 
