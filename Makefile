@@ -4,8 +4,8 @@ TABLE ?= crates/settle/stdin
 
 # Builds the proved program `settle` and runs it.
 run:
-	@rt check settle >/dev/null || { echo "make run: 'rt check settle' failed: run it to see why"; exit 1; }
 	@[ -f "$(TABLE)" ] || { echo "make run: there is no file $(TABLE); give one as TABLE="; exit 1; }
+	@rt check settle >/dev/null || { echo "make run: 'rt check settle' failed: run it to see why"; exit 1; }
 	@target/bin/settle <"$(TABLE)"
 
 # Proves every crate, tries the must-fail edits, runs the programs and the Rust tests.

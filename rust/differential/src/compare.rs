@@ -31,6 +31,11 @@ impl Answer {
         let number = self.number / i128::from(REFUSED);
         (number > 0).then_some(number)
     }
+
+    /// What a buffer of bytes came back with.
+    pub fn bytes(&mut self, buffer: usize) -> Vec<u8> {
+        self.buffers[buffer].entries().iter().map(|entry| *entry as u8).collect()
+    }
 }
 
 /// A buffer to lend, between guards that show a write outside of it.
@@ -39,7 +44,7 @@ pub struct Lent<T> {
     entries: Vec<T>,
 }
 
-const GUARDS: usize = 3;
+const GUARDS: usize = 16;
 
 impl<T: Copy + Into<u16>> Lent<T> {
     pub fn new(guard: T, entries: &[T]) -> Self {
@@ -64,6 +69,11 @@ impl<T: Copy + Into<u16>> Lent<T> {
 /// A call of a ported function, with everything that it takes beside the case's profile and table.
 pub trait Query: Debug {
     fn function(&self) -> &'static str;
+
+    /// The sort and number under which an answer is counted, if answers are.
+    fn counted(_answer: &Answer) -> Option<(&'static str, i128)> {
+        None
+    }
 }
 
 /// A side of the comparison, made for one case.
@@ -100,9 +110,14 @@ impl<Q: Query, A: Answers<Q>> Answers<Q> for Altered<'_, Q, A> {
 pub struct Tally {
     pub tables: BTreeMap<&'static str, u64>,
     pub comparisons: BTreeMap<&'static str, u64>,
+    pub answers: BTreeMap<(&'static str, i128), u64>,
 }
 
 impl Tally {
+    pub fn all_comparisons(&self) -> u64 {
+        self.comparisons.values().sum()
+    }
+
     /// Prints past the test harness, which holds back what a passing test prints.
     pub fn print(&self, title: &str) {
         write!(std::io::stdout(), "\n{title}: {self}").expect("standard output can be written");
@@ -116,6 +131,9 @@ impl Display for Tally {
             for (name, count) in counts {
                 writeln!(f, "  {count:>10} {name}")?;
             }
+        }
+        for ((sort, number), count) in &self.answers {
+            writeln!(f, "  {count:>10} {sort} {number}")?;
         }
         Ok(())
     }
@@ -170,6 +188,9 @@ pub fn compare<Q: Query>(
         let function = query.function();
         *tally.comparisons.entry(function).or_default() += 1;
         let (expected, actual) = (expected.answer(&query), actual.answer(&query));
+        if let Some(counted) = Q::counted(&expected) {
+            *tally.answers.entry(counted).or_default() += 1;
+        }
         if expected != actual {
             return Err(Box::new(Mismatch { function, query: format!("{query:?}"), expected, actual }));
         }

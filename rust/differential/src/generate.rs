@@ -15,6 +15,13 @@ pub struct Case {
     pub table: Vec<u8>,
 }
 
+impl Case {
+    /// The rows that the table has whole.
+    pub fn rows(&self) -> usize {
+        self.table.len() / ROW_BYTES
+    }
+}
+
 impl Display for Case {
     fn fmt(&self, f: &mut Formatter<'_>) -> fmt::Result {
         writeln!(f, "seed {} ({})", self.seed, self.sort)?;

@@ -1,4 +1,5 @@
-//! Holds the proved functions of the static library `probe` against the original Rust.
+//! Holds the proved functions of the static libraries `probe` and `redstone`, and the program `settle`, against the
+//! original Rust.
 
 pub mod checks;
 pub mod compare;
@@ -10,6 +11,8 @@ pub mod generate;
 pub mod oracle;
 pub mod positions;
 pub mod probe;
+#[cfg(all(feature = "program", not(no_original)))]
+pub mod program;
 pub mod random;
 #[cfg(all(feature = "redstone", not(no_original)))]
 pub mod redstone;

@@ -66,9 +66,6 @@ c_functions! {
 
 #[cfg(feature = "redstone")]
 c_functions! {
-    fn redstone_fresh(profile: &[u8], table: &[u8], state: &mut [u8], signal: &mut [u8], weak: &mut [u8], strong: &mut [u8]) -> u32;
-    fn redstone_settle(profile: &[u8], table: &[u8], devices: &[u8], limit: u32, signal: &mut [u8], weak: &mut [u8], strong: &mut [u8]) -> u32;
-    fn redstone_tick(profile: &[u8], table: &[u8], state: &mut [u8], tick: u32, ticks: u32, signal: &mut [u8], weak: &mut [u8], strong: &mut [u8]) -> u32;
     fn redstone_switch(profile: &[u8], table: &mut [u8], state: &[u8], x: i32, y: i32, z: i32, powered: u32, signal: &mut [u8], weak: &mut [u8], strong: &mut [u8]) -> u32;
 }
 

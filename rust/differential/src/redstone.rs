@@ -1,23 +1,29 @@
-//! electrical.rs and sim.rs, through the editor's four calls.
+//! electrical.rs and sim.rs, through the four calls of the editor's crate.
 
 mod alterations;
+mod edges;
 mod queries;
+mod runs;
 mod state;
 
 use original::electrical::{InstantaneousElectricalState, PoweredBlockState, solve_instantaneous};
 use original::sim::{RedstoneTickSimulator, TickState};
+use original::world::World;
+use redstone::{Columns, Rounds};
 
 use crate::compare::{Answer, Answers, Compared, Lent, Query, Tally, compare};
 use crate::generate::Case;
 use crate::oracle::{Oracle, pos};
-use crate::probe::{Probe, redstone_fresh, redstone_settle, redstone_switch, redstone_tick};
+use crate::probe::Probe;
 use crate::refusals::{self, Refusal, STATE_BYTES};
 use crate::table::{Position, ROW_BYTES};
 
 pub use alterations::ALTERATIONS;
-pub use queries::queries;
-pub use state::pack;
-use state::{device_outputs, unpack};
+pub use edges::{edges, single_bytes};
+pub use queries::{fresh_devices, queries, settle_at_every_limit};
+pub use runs::{OriginalRun, ProvedRun, steps};
+use state::unpack;
+pub use state::{device_outputs, pack};
 
 pub fn compare_case(case: &Case, actual: &dyn Answers<Call>, tally: &mut Tally) -> Compared {
     let oracle = Oracle::new(case);
@@ -25,18 +31,18 @@ pub fn compare_case(case: &Case, actual: &dyn Answers<Call>, tally: &mut Tally) 
 }
 
 /// A call, with the lengths of the signal, weak and strong columns lent to it.
-#[derive(Debug)]
+#[derive(Clone, Debug)]
 pub struct Call {
     pub input: Input,
     pub columns: [usize; 3],
 }
 
-#[derive(Debug)]
+#[derive(Clone, Debug)]
 pub enum Input {
     Fresh { state_bytes: usize },
     Settle { devices: Vec<u8>, limit: u32 },
     Tick { state: Vec<u8>, tick: u32, ticks: u32 },
-    Switch { state: Vec<u8>, at: Position, powered: u32 },
+    Switch { state: Vec<u8>, at: Position, powered: bool },
 }
 
 impl Query for Call {
@@ -48,73 +54,84 @@ impl Query for Call {
             Input::Switch { .. } => "switch",
         }
     }
+
+    fn counted(answer: &Answer) -> Option<(&'static str, i128)> {
+        Some(match answer.refusal() {
+            Some(number) => ("refusal", number),
+            None => ("rounds", answer.number),
+        })
+    }
 }
 
-/// Where the buffers stand in an answer: first the one that the call changes, which is fresh's and tick's state and
-/// switch's table, and empty for settle.
-pub const CHANGED: usize = 0;
-pub const SIGNAL: usize = 1;
-pub const WEAK: usize = 2;
-pub const STRONG: usize = 3;
+/// Where the buffers of a call stand in its answer. Those that it only reads are there too. STATE is the device column
+/// for settle.
+pub const TABLE: usize = 1;
+pub const STATE: usize = 2;
+pub const SIGNAL: usize = 3;
+pub const WEAK: usize = 4;
+pub const STRONG: usize = 5;
 
 const GUARD: u8 = 0x5a;
 const UNTOUCHED: u8 = 0xc3;
 
 /// What a call is lent.
-struct Buffers {
-    changed: Lent<u8>,
-    columns: [Lent<u8>; 3],
-}
+struct Buffers([Lent<u8>; 6]);
 
 impl Buffers {
-    fn new(case: &Case, call: &Call) -> Self {
-        let changed = match &call.input {
+    fn new(buffers: [&[u8]; 6]) -> Self {
+        Self(buffers.map(|bytes| Lent::new(GUARD, bytes)))
+    }
+
+    fn for_call(case: &Case, call: &Call) -> Self {
+        let state = match &call.input {
             Input::Fresh { state_bytes } => &vec![UNTOUCHED; *state_bytes],
-            Input::Settle { .. } => &Vec::new(),
-            Input::Tick { state, .. } => state,
-            Input::Switch { .. } => &case.table,
+            Input::Settle { devices, .. } => devices,
+            Input::Tick { state, .. } | Input::Switch { state, .. } => state,
         };
-        Self {
-            changed: Lent::new(GUARD, changed),
-            columns: call.columns.map(|entries| Lent::new(GUARD, &vec![UNTOUCHED; entries])),
-        }
+        let [signal, weak, strong] = call.columns.map(|entries| vec![UNTOUCHED; entries]);
+        Self::new([&case.profile, &case.table, state, &signal, &weak, &strong])
+    }
+
+    fn entries(&mut self) -> [&mut [u8]; 6] {
+        self.0.each_mut().map(Lent::entries)
     }
 
     fn answer(self, number: u32) -> Answer {
-        let [signal, weak, strong] = self.columns;
-        let buffers = [self.changed, signal, weak, strong];
-        Answer::with_buffers(number, buffers.map(Lent::returned))
+        Answer::with_buffers(number, self.0.map(Lent::returned))
     }
 }
 
 impl Answers<Call> for Probe<'_> {
     fn answer(&self, call: &Call) -> Answer {
-        let Case { profile, table, .. } = self.0;
-        let mut buffers = Buffers::new(self.0, call);
-        let changed = buffers.changed.entries();
-        let [signal, weak, strong] = buffers.columns.each_mut().map(Lent::entries);
-        let number = match &call.input {
-            Input::Fresh { .. } => redstone_fresh(profile, table, changed, signal, weak, strong),
-            Input::Settle { devices, limit } => {
-                redstone_settle(profile, table, devices, *limit, signal, weak, strong)
-            }
-            Input::Tick { tick, ticks, .. } => {
-                redstone_tick(profile, table, changed, *tick, *ticks, signal, weak, strong)
-            }
-            Input::Switch { state, at: [x, y, z], powered } => {
-                redstone_switch(profile, changed, state, *x, *y, *z, *powered, signal, weak, strong)
+        let mut buffers = Buffers::for_call(self.0, call);
+        let [profile, table, state, signal, weak, strong] = buffers.entries();
+        let columns = Columns { signal, weak, strong };
+        let answered = match call.input {
+            Input::Fresh { .. } => ::redstone::fresh(profile, table, state, columns),
+            Input::Settle { limit, .. } => ::redstone::settle(profile, table, state, limit, columns),
+            Input::Tick { tick, ticks, .. } => ::redstone::tick(profile, table, state, tick, ticks, columns),
+            Input::Switch { at, powered, .. } => {
+                ::redstone::switch(profile, table, state, at, powered, columns)
             }
         };
-        buffers.answer(number)
+        buffers.answer(number(answered))
+    }
+}
+
+/// The number that the C call answered with.
+fn number(answered: Result<Rounds, ::redstone::Refusal>) -> u32 {
+    match answered {
+        Ok(rounds) => rounds.get(),
+        Err(::redstone::Refusal { number, row }) => Refusal { number, row }.code(),
     }
 }
 
 impl Answers<Call> for Oracle<'_> {
     fn answer(&self, call: &Call) -> Answer {
-        let mut buffers = Buffers::new(self.case, call);
-        let number = match self.called(call, buffers.changed.entries()) {
+        let mut buffers = Buffers::for_call(self.case, call);
+        let [_, table, state, columns @ ..] = buffers.entries();
+        let number = match self.called(call, table, state) {
             Ok(settled) => {
-                let columns = buffers.columns.each_mut().map(Lent::entries);
                 self.write_columns(&settled, columns);
                 settled.iterations as u32
             }
@@ -126,29 +143,33 @@ impl Answers<Call> for Oracle<'_> {
 
 impl Oracle<'_> {
     /// Refuses, or changes what the call changes and gives the settled numbers.
-    fn called(&self, call: &Call, changed: &mut [u8]) -> Result<InstantaneousElectricalState, Refusal> {
+    fn called(
+        &self,
+        call: &Call,
+        table: &mut [u8],
+        state: &mut [u8],
+    ) -> Result<InstantaneousElectricalState, Refusal> {
         self.refusal?;
-        let table = &self.case.table;
-        match &call.input {
-            Input::Settle { devices, .. } => refusals::devices(table, devices)?,
-            Input::Tick { state, .. } | Input::Switch { state, .. } => refusals::state(table, state)?,
-            Input::Fresh { state_bytes } => refusals::column(table, *state_bytes, STATE_BYTES)?,
+        match call.input {
+            Input::Settle { .. } => refusals::devices(table, state)?,
+            Input::Tick { .. } | Input::Switch { .. } => refusals::state(table, state)?,
+            Input::Fresh { state_bytes } => refusals::column(table, state_bytes, STATE_BYTES)?,
         }
         for entries in call.columns {
             refusals::column(table, entries, 1)?;
         }
-        match &call.input {
-            Input::Fresh { .. } => Ok(self.fresh(changed)),
-            Input::Settle { devices, limit } => self.settle(devices, *limit),
-            Input::Tick { state, tick, ticks } => {
-                refusals::clock(*tick, *ticks)?;
-                Ok(self.tick(state, *ticks, changed))
+        match call.input {
+            Input::Fresh { .. } => Ok(self.fresh(state)),
+            Input::Settle { limit, .. } => self.settle(state, limit),
+            Input::Tick { tick, ticks, .. } => {
+                refusals::clock(tick, ticks)?;
+                Ok(self.tick(state, ticks))
             }
-            Input::Switch { state, at, powered } => Ok(self.switch(state, *at, *powered != 0, changed)),
+            Input::Switch { at, powered, .. } => Ok(self.switch(state, at, powered, table)),
         }
     }
 
-    fn settle(&self, devices: &[u8], limit: u32) -> Result<InstantaneousElectricalState, Refusal> {
+    pub fn settle(&self, devices: &[u8], limit: u32) -> Result<InstantaneousElectricalState, Refusal> {
         let devices = device_outputs(&self.rows, devices);
         solve_instantaneous(self.world(), &devices, limit as usize).map_err(|_| Refusal { number: 8, row: 0 })
     }
@@ -165,10 +186,10 @@ impl Oracle<'_> {
         RedstoneTickSimulator::from_parts(self.world().clone(), parts).expect(SETTLES)
     }
 
-    fn tick(&self, state: &[u8], ticks: u32, changed: &mut [u8]) -> InstantaneousElectricalState {
+    fn tick(&self, state: &mut [u8], ticks: u32) -> InstantaneousElectricalState {
         let mut simulator = self.simulator(state);
         let last = simulator.settle_ticks(ticks as usize).expect(SETTLES);
-        changed.copy_from_slice(&pack(&self.rows, &simulator.parts()));
+        state.copy_from_slice(&pack(&self.rows, &simulator.parts()));
         settled(last)
     }
 
@@ -181,9 +202,7 @@ impl Oracle<'_> {
     ) -> InstantaneousElectricalState {
         let mut simulator = self.simulator(state);
         let last = simulator.set_powered(pos(at), powered).expect(SETTLES);
-        for (row, (_, block)) in table.chunks_exact_mut(ROW_BYTES).zip(simulator.world().iter()) {
-            row[14] = block.powered.map_or(0, |powered| 1 + u8::from(powered));
-        }
+        write_powered(table, simulator.world());
         settled(last)
     }
 
@@ -192,6 +211,13 @@ impl Oracle<'_> {
             signal[row] = settled.signal(at);
             PoweredBlockState { weak: weak[row], strong: strong[row] } = settled.power(at);
         }
+    }
+}
+
+/// Writes byte 14 of each row as a world has it.
+fn write_powered(table: &mut [u8], world: &World) {
+    for (row, (_, block)) in table.chunks_exact_mut(ROW_BYTES).zip(world.iter()) {
+        row[14] = block.powered.map_or(0, |powered| 1 + u8::from(powered));
     }
 }
 

@@ -1,5 +1,6 @@
 //! What the tests of all areas share.
 
+use std::cell::Cell;
 use std::collections::BTreeSet;
 use std::env;
 
@@ -15,7 +16,7 @@ pub fn good_cases(tables: u64) -> impl Iterator<Item = Case> {
     (first..first + setting("DIFF_TABLES", tables)).map(generate::case)
 }
 
-fn setting(name: &str, otherwise: u64) -> u64 {
+pub fn setting(name: &str, otherwise: u64) -> u64 {
     let Ok(value) = env::var(name) else {
         return otherwise;
     };
@@ -38,10 +39,28 @@ pub fn assert_agrees<Q>(title: &str, cases: impl Iterator<Item = Case>, compare_
 where
     for<'a> Probe<'a>: Answers<Q>,
 {
-    match compare_probe(cases, compare_case) {
-        Ok(tally) => tally.print(title),
-        Err(report) => panic!("{title}: {report}"),
-    }
+    assert_compared(title, compare_probe(cases, compare_case));
+}
+
+/// Prints how much was compared, where all of it agreed.
+pub fn assert_compared(title: &str, compared: Result<Tally, Box<Report>>) -> Tally {
+    let tally = compared.unwrap_or_else(|report| panic!("{title}: {report}"));
+    tally.print(title);
+    tally
+}
+
+/// Accepted and damaged tables, until as many comparisons as `wanted` are made of them.
+pub fn compare_many<Q>(wanted: u64, compare_case: CompareCase<Q>) -> Result<Tally, Box<Report>>
+where
+    for<'a> Probe<'a>: Answers<Q>,
+{
+    let made = Cell::new(0);
+    let cases = with_damaged((setting("DIFF_SEED", 0)..).map(generate::case));
+    run(cases.take_while(|_| made.get() < wanted), |case, tally| {
+        let compared = compare_case(case, &Probe(case), tally);
+        made.set(tally.all_comparisons());
+        compared
+    })
 }
 
 fn compare_probe<Q>(

@@ -1,4 +1,4 @@
-//! electrical.rs and sim.rs on accepted and damaged tables.
+//! electrical.rs and sim.rs, through the editor's crate, on accepted and damaged tables.
 
 #[cfg(no_original)]
 #[test]
@@ -8,43 +8,85 @@ fn the_original_was_not_found() {
 
 #[cfg(not(no_original))]
 mod compared {
-    use std::collections::BTreeSet;
-
-    use differential::compare::{Answer, Answers};
+    use differential::compare::{Answer, Answers, Tally, compare, run};
     use differential::generate::{self, BENCH_PROFILE, Case};
     use differential::oracle::Oracle;
-    use differential::probe::Probe;
-    use differential::redstone::{ALTERATIONS, CHANGED, Call, Input, SIGNAL, compare_case, pack, queries};
-    use differential::suite::{assert_agrees, assert_alterations_reported, good_cases, with_damaged};
-    use differential::table::{self, ROW_BYTES, Row, kind};
+    use differential::probe::{Probe, redstone_switch};
+    use differential::redstone::{
+        ALTERATIONS, Call, Input, OriginalRun, ProvedRun, SIGNAL, STATE, TABLE, compare_case, edges, pack,
+        settle_at_every_limit, single_bytes, steps,
+    };
+    use differential::suite::{
+        assert_alterations_reported, assert_compared, compare_many, good_cases, setting,
+    };
+    use differential::table::{self, Row, kind};
     use original::sim::RedstoneTickSimulator;
 
+    /// So many calls are compared, or more where DIFF_CALLS says so; 1,000,000 take some minutes.
+    const CALLS: u64 = 50_000;
+
+    /// Every number of rounds and every refusal is among the answers.
     #[test]
     fn redstone_agrees_with_the_original() {
-        assert_agrees("redstone", with_damaged(good_cases(10_000)), compare_case);
+        let calls = setting("DIFF_CALLS", CALLS).max(CALLS);
+        let tally = assert_compared("redstone", compare_many(calls, compare_case));
+        let rounds = (1..=17).map(|rounds| ("rounds", rounds));
+        let refusals = (1..=9).map(|refusal| ("refusal", refusal));
+        let missing: Vec<_> =
+            rounds.chain(refusals).filter(|answer| !tally.answers.contains_key(answer)).collect();
+        assert!(missing.is_empty(), "not among the answers: {missing:?}");
+    }
+
+    #[test]
+    fn settling_agrees_at_every_limit() {
+        let compared = run(good_cases(1_000), |case, tally| {
+            let oracle = Oracle::new(case);
+            compare(settle_at_every_limit(&oracle), &oracle, &Probe(case), tally)
+        });
+        assert_compared("limits", compared);
+    }
+
+    #[test]
+    fn runs_agree_with_the_original() {
+        let compared = run(good_cases(300), |case, tally| {
+            let oracle = Oracle::new(case);
+            compare(steps(&oracle), &OriginalRun::new(&oracle), &ProvedRun::new(case, false), tally)
+        });
+        assert_compared("runs", compared);
+    }
+
+    #[test]
+    fn many_ticks_in_one_call_are_as_many_single_ones() {
+        let compared = run(good_cases(300), |case, tally| {
+            let steps = steps(&Oracle::new(case));
+            compare(steps, &ProvedRun::new(case, true), &ProvedRun::new(case, false), tally)
+        });
+        assert_compared("single ticks", compared);
+    }
+
+    #[test]
+    fn inputs_at_the_ends_agree() {
+        assert_each_agrees("ends", edges());
+    }
+
+    #[test]
+    fn every_byte_set_to_every_value_agrees() {
+        assert_each_agrees("single bytes", single_bytes());
+    }
+
+    fn assert_each_agrees(title: &str, asked: impl Iterator<Item = (Case, Call)>) {
+        let mut tally = Tally::default();
+        for (case, call) in asked {
+            *tally.tables.entry(case.sort).or_default() += 1;
+            let compared = compare([call], &Oracle::new(&case), &Probe(&case), &mut tally);
+            compared.unwrap_or_else(|mismatch| panic!("{title}: {case}{mismatch}"));
+        }
+        tally.print(title);
     }
 
     #[test]
     fn altered_answers_are_reported() {
         assert_alterations_reported(&ALTERATIONS, compare_case);
-    }
-
-    /// Every number of rounds and every refusal is among the answers compared.
-    #[test]
-    fn every_answer_is_met() {
-        let (mut rounds, mut refusals) = (BTreeSet::new(), BTreeSet::new());
-        for case in with_damaged((0..3_000).map(generate::case)) {
-            let oracle = Oracle::new(&case);
-            for call in queries(&case, &oracle) {
-                let answer = oracle.answer(&call);
-                match answer.refusal() {
-                    Some(number) => refusals.insert(number),
-                    None => rounds.insert(answer.number),
-                };
-            }
-        }
-        assert!(rounds.iter().copied().eq(1..=17), "{rounds:?}");
-        assert!(refusals.iter().copied().eq(1..=9), "{refusals:?}");
     }
 
     /// A run that is packed and unpacked at each tick comes to the states of a run that is not.
@@ -69,11 +111,36 @@ mod compared {
 
     /// The answer that both sides give.
     fn answer(case: &Case, input: Input) -> Answer {
-        let rows = case.table.len() / ROW_BYTES;
-        let call = Call { input, columns: [rows; 3] };
+        let call = Call { input, columns: [case.rows(); 3] };
         let answer = Probe(case).answer(&call);
         assert_eq!(answer, Oracle::new(case).answer(&call), "{case}{call:?}");
         answer
+    }
+
+    /// The editor's crate has only 0 and 1 for a switch.
+    #[test]
+    fn any_number_but_0_switches_on() {
+        let case = bench_case(&[Row::new([0, 0, 0], kind::LEVER)]);
+        let state = vec![0; 16];
+        for (number, powered) in
+            [(0, false), (1, true), (2, true), (256, true), (65_536, true), (u32::MAX, true)]
+        {
+            let (mut table, mut signal, mut weak, mut strong) = (case.table.clone(), [9], [9], [9]);
+            redstone_switch(
+                &case.profile,
+                &mut table,
+                &state,
+                0,
+                0,
+                0,
+                number,
+                &mut signal,
+                &mut weak,
+                &mut strong,
+            );
+            let mut switched = answer(&case, Input::Switch { state: state.clone(), at: [0; 3], powered });
+            assert_eq!((table, signal.to_vec()), (switched.bytes(TABLE), switched.bytes(SIGNAL)), "{number}");
+        }
     }
 
     /// Test 4 of the book.
@@ -88,7 +155,7 @@ mod compared {
         let settle = |limit| answer(&case, Input::Settle { devices: vec![0; rows.len()], limit });
         let mut settled = settle(128);
         assert_eq!(settled.number, 17);
-        assert_eq!(settled.buffers[SIGNAL].entries().last(), Some(&1));
+        assert_eq!(settled.bytes(SIGNAL).last(), Some(&1));
         assert_eq!(settle(17), settled);
         assert_eq!(settle(16).refusal(), Some(8));
     }
@@ -103,15 +170,11 @@ mod compared {
         let on = bench_case(&[lamp.clone(), lever.clone()]);
         lever.powered = 1;
         let off = bench_case(&[lamp, lever]);
-        let state_after = |mut answer: Answer| {
-            let entries = answer.buffers[CHANGED].entries();
-            entries.iter().map(|entry| *entry as u8).collect::<Vec<_>>()
-        };
-        let fresh = state_after(answer(&on, Input::Fresh { state_bytes: 32 }));
-        let state = state_after(answer(&on, Input::Tick { state: fresh, tick: 0, ticks: 4 }));
+        let fresh = answer(&on, Input::Fresh { state_bytes: 32 }).bytes(STATE);
+        let state = answer(&on, Input::Tick { state: fresh, tick: 0, ticks: 4 }).bytes(STATE);
         let lamp_after = |ticks| {
             let tick = Input::Tick { state: state.clone(), tick: 4, ticks };
-            state_after(answer(&off, tick))[2..4].to_vec()
+            answer(&off, tick).bytes(STATE)[2..4].to_vec()
         };
         assert_eq!([0, 1, 2, 3].map(lamp_after), [[1, 0], [1, 2], [1, 1], [0, 0]]);
     }

@@ -1,17 +1,18 @@
 //! Wrong answers that the comparison must report.
 
-use super::{CHANGED, Call, Input, SIGNAL, STRONG, WEAK};
-use crate::compare::Alteration;
+use super::{Call, Input, SIGNAL, STATE, STRONG, TABLE, WEAK};
+use crate::compare::{Alteration, Answers};
+use crate::probe::Probe;
 use crate::refusals::STATE_BYTES;
 use crate::table::ROW_BYTES;
 
-pub const ALTERATIONS: [Alteration<Call>; 8] = [
+pub const ALTERATIONS: [Alteration<Call>; 11] = [
     Alteration {
         function: "fresh",
         what: "no lamp is lit",
         alter: |_, _, answer| {
             if answer.refusal().is_none() {
-                let rows = answer.buffers[CHANGED].entries().chunks_mut(STATE_BYTES);
+                let rows = answer.buffers[STATE].entries().chunks_mut(STATE_BYTES);
                 rows.for_each(|row| row[2] = 0);
             }
         },
@@ -54,11 +55,26 @@ pub const ALTERATIONS: [Alteration<Call>; 8] = [
         },
     },
     Alteration {
+        function: "settle",
+        what: "the byte after a column is written",
+        alter: |_, _, answer| *answer.buffers[SIGNAL].first_guard_after() = 0,
+    },
+    Alteration {
+        function: "tick",
+        what: "of many ticks only the first is done",
+        alter: |case, call, answer| {
+            if let (Input::Tick { state, tick, ticks: 2.. }, None) = (&call.input, answer.refusal()) {
+                let input = Input::Tick { state: state.clone(), tick: *tick, ticks: 1 };
+                *answer = Probe(case).answer(&Call { input, ..call.clone() });
+            }
+        },
+    },
+    Alteration {
         function: "tick",
         what: "the state stays as it was",
         alter: |_, call, answer| {
             if let Input::Tick { state, .. } = &call.input {
-                let entries = answer.buffers[CHANGED].entries().iter_mut();
+                let entries = answer.buffers[STATE].entries().iter_mut();
                 entries.zip(state).for_each(|(entry, byte)| *entry = (*byte).into());
             }
         },
@@ -67,10 +83,15 @@ pub const ALTERATIONS: [Alteration<Call>; 8] = [
         function: "switch",
         what: "byte 14 stays as it was",
         alter: |case, _, answer| {
-            let entries = answer.buffers[CHANGED].entries().iter_mut();
+            let entries = answer.buffers[TABLE].entries().iter_mut();
             let bytes = entries.zip(&case.table).skip(14).step_by(ROW_BYTES);
             bytes.for_each(|(entry, byte)| *entry = (*byte).into());
         },
+    },
+    Alteration {
+        function: "switch",
+        what: "the state, which is only read, is cleared",
+        alter: |_, _, answer| answer.buffers[STATE].entries().fill(0),
     },
     Alteration {
         function: "switch",

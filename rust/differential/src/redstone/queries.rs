@@ -8,14 +8,14 @@ use crate::generate::Case;
 use crate::oracle::{Oracle, pos};
 use crate::random::Random;
 use crate::refusals::STATE_BYTES;
-use crate::table::{Position, ROW_BYTES, Row, kind};
+use crate::table::{Position, Row, kind};
 
 /// From this many rows on a table is asked for less.
-const LARGE: usize = 100;
+pub const LARGE: usize = 100;
 
 pub fn queries(case: &Case, oracle: &Oracle) -> Vec<Call> {
     let mut random = Random::new(case.seed);
-    let rows = case.table.len() / ROW_BYTES;
+    let rows = case.rows();
     let inputs = match oracle.refusal {
         Ok(()) => accepted_inputs(&mut random, oracle),
         Err(_) => refused_inputs(rows),
@@ -31,7 +31,7 @@ fn refused_inputs(rows: usize) -> Vec<Input> {
     vec![
         Input::Settle { devices: vec![0; rows], limit: 128 },
         Input::Tick { state: state.clone(), tick: 0, ticks: 1 },
-        Input::Switch { state, at: [0; 3], powered: 1 },
+        Input::Switch { state, at: [0; 3], powered: true },
     ]
 }
 
@@ -48,26 +48,30 @@ fn accepted_inputs(random: &mut Random, oracle: &Oracle) -> Vec<Input> {
     inputs
 }
 
-/// Settling at the limit of the simulator, about the rounds needed, and now and then at every small limit.
+/// Settling at the limit of the simulator, the highest, about the rounds needed, and at some small one.
 fn settles(random: &mut Random, oracle: &Oracle) -> Vec<Input> {
     let mut inputs = Vec::new();
     for devices in [fresh_devices(oracle), any_devices(random, &oracle.rows)] {
         let rounds = oracle.settle(&devices, 128).expect(SETTLES).iterations as u32;
         let few = random.below(21) as u32;
         let mut limits = vec![128, u32::MAX, rounds, rounds - 1, few];
-        if random.percent(4) && oracle.rows.len() < LARGE {
-            limits.extend(0..=20);
-        } else {
-            random.keep(&mut limits, 2);
-        }
+        random.keep(&mut limits, 2);
         let settle = |limit| Input::Settle { devices: devices.clone(), limit };
         inputs.extend(limits.into_iter().map(settle));
     }
     inputs
 }
 
+/// Settling with some devices at each limit up to a few above the most rounds, and at the simulator's.
+pub fn settle_at_every_limit(oracle: &Oracle) -> impl Iterator<Item = Call> {
+    let devices = any_devices(&mut Random::new(oracle.case.seed), &oracle.rows);
+    let columns = [oracle.rows.len(); 3];
+    let settle = move |limit| Call { input: Input::Settle { devices: devices.clone(), limit }, columns };
+    (0..=20).chain([128]).map(settle)
+}
+
 /// The device column of the fresh state.
-fn fresh_devices(oracle: &Oracle) -> Vec<u8> {
+pub fn fresh_devices(oracle: &Oracle) -> Vec<u8> {
     let outputs = DeviceOutputState::initially_lit(oracle.world());
     let device = |row: &Row| {
         let at = pos(row.position);
@@ -141,11 +145,11 @@ fn tick(random: &mut Random, state: Vec<u8>) -> Input {
 }
 
 fn switch(random: &mut Random, oracle: &Oracle, state: Vec<u8>) -> Input {
-    Input::Switch { state, at: any_position(random, oracle), powered: random.pick(&[0, 0, 1, 2, u32::MAX]) }
+    Input::Switch { state, at: any_position(random, oracle), powered: random.percent(50) }
 }
 
 /// A row's position, or now and then any.
-fn any_position(random: &mut Random, oracle: &Oracle) -> Position {
+pub fn any_position(random: &mut Random, oracle: &Oracle) -> Position {
     if oracle.rows.is_empty() || random.percent(15) {
         [(); 3].map(|()| random.pick(&[0, 1, i32::MIN, i32::MAX]))
     } else {

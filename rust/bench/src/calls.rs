@@ -1,0 +1,169 @@
+//! The tables and the calls that are timed.
+
+use differential::compare::Answers;
+use differential::generate::{self, BENCH_PROFILE, Case};
+use differential::oracle::{Oracle, pos};
+use differential::probe::{Probe, probe_find};
+use differential::redstone::{Call, Input, STATE, device_outputs, fresh_devices, pack};
+use differential::refusals::STATE_BYTES;
+use differential::table::{self, Position, Row, kind};
+use original::electrical::solve_instantaneous;
+use original::sim::RedstoneTickSimulator;
+use redstone::{Columns, fresh, settle, switch, tick};
+
+use crate::timing::{Medians, medians};
+
+pub fn cases() -> Vec<Case> {
+    let dense = (0..).map(generate::case).find(|case| case.sort == "1,024 rows");
+    vec![
+        line("15 dust in line, 31 rows", 15),
+        line("511 dust in line, 1,023 rows", 511),
+        Case {
+            sort: "dense, 1,024 rows",
+            ..with_bench_profile(dense.expect("some seed has such a table").table)
+        },
+        Case { sort: "no rows", ..with_bench_profile(Vec::new()) },
+    ]
+}
+
+fn with_bench_profile(table: Vec<u8>) -> Case {
+    Case { seed: 0, sort: "", profile: BENCH_PROFILE.into(), table }
+}
+
+/// Test 4 of the book, with as many dust.
+fn line(sort: &'static str, dust: i32) -> Case {
+    let mut rows = vec![Row::new([0, 1, 0], kind::REDSTONE_BLOCK)];
+    for x in 1..=dust {
+        rows.extend([Row::new([x, 0, 0], kind::SOLID), Row::new([x, 1, 0], kind::DUST)]);
+    }
+    Case { sort, ..with_bench_profile(table::encode(&rows)) }
+}
+
+/// A switch's position, or else the first row's.
+fn switched(rows: &[Row]) -> Position {
+    let lever = rows.iter().find(|row| row.kind == kind::LEVER);
+    lever.or(rows.first()).map_or([0; 3], |row| row.position)
+}
+
+pub fn assert_sides_agree(case: &Case) {
+    let oracle = Oracle::new(case);
+    let rows = oracle.rows.len();
+    let ask = |input| {
+        let call = Call { input, columns: [rows; 3] };
+        let mut answer = oracle.answer(&call);
+        assert_eq!(answer, Probe(case).answer(&call), "{}", case.sort);
+        answer.bytes(STATE)
+    };
+    let state = ask(Input::Fresh { state_bytes: STATE_BYTES * rows });
+    ask(Input::Settle { devices: fresh_devices(&oracle), limit: 128 });
+    ask(Input::Tick { state: state.clone(), tick: 0, ticks: 2 });
+    ask(Input::Switch { state, at: switched(&oracle.rows), powered: true });
+}
+
+/// The columns that the proved calls write, run after run.
+struct Levels([Vec<u8>; 3]);
+
+impl Levels {
+    fn new(rows: usize) -> Self {
+        Self([(); 3].map(|()| vec![0; rows]))
+    }
+
+    fn columns(&mut self) -> Columns<'_> {
+        let [signal, weak, strong] = &mut self.0;
+        Columns { signal, weak, strong }
+    }
+}
+
+pub fn medians_of_each_call(case: &Case) -> [(&'static str, Medians); 5] {
+    let oracle = Oracle::new(case);
+    [
+        ("settle", of_settle(&oracle)),
+        ("fresh", of_fresh(&oracle)),
+        ("tick", of_tick(&oracle)),
+        ("switch", of_switch(&oracle)),
+        ("look-up", of_look_up(&oracle)),
+    ]
+}
+
+fn of_settle(oracle: &Oracle) -> Medians {
+    let Case { profile, table, .. } = oracle.case;
+    let (world, mut levels) = (oracle.world(), Levels::new(oracle.rows.len()));
+    let devices = fresh_devices(oracle);
+    let outputs = device_outputs(&oracle.rows, &devices);
+    medians(
+        || (),
+        |()| solve_instantaneous(world, &outputs, 128),
+        || settle(profile, table, &devices, 128, levels.columns()),
+    )
+}
+
+fn of_fresh(oracle: &Oracle) -> Medians {
+    let Case { profile, table, .. } = oracle.case;
+    let (world, mut levels) = (oracle.world(), Levels::new(oracle.rows.len()));
+    let mut state = vec![0; STATE_BYTES * oracle.rows.len()];
+    medians(
+        || world.clone(),
+        RedstoneTickSimulator::new,
+        || fresh(profile, table, &mut state, levels.columns()),
+    )
+}
+
+/// The original's simulator and the state that is the same.
+fn started(oracle: &Oracle) -> (RedstoneTickSimulator, Vec<u8>) {
+    let simulator = RedstoneTickSimulator::new(oracle.world().clone()).expect("the original settles");
+    let state = pack(&oracle.rows, &simulator.parts());
+    (simulator, state)
+}
+
+fn of_tick(oracle: &Oracle) -> Medians {
+    let Case { profile, table, .. } = oracle.case;
+    let mut levels = Levels::new(oracle.rows.len());
+    let (mut simulator, mut state) = started(oracle);
+    let medians = medians(
+        || (),
+        |()| simulator.advance_tick(),
+        || tick(profile, table, &mut state, 0, 1, levels.columns()),
+    );
+    assert!(state == pack(&oracle.rows, &simulator.parts()), "the sides' states differ");
+    medians
+}
+
+fn of_switch(oracle: &Oracle) -> Medians {
+    let profile = &oracle.case.profile;
+    let (mut table, mut levels) = (oracle.case.table.clone(), Levels::new(oracle.rows.len()));
+    let (mut simulator, state) = started(oracle);
+    let at = switched(&oracle.rows);
+    let (mut simulators, mut proved) = (false, false);
+    medians(
+        || (),
+        |()| {
+            simulators = !simulators;
+            simulator.set_powered(pos(at), simulators)
+        },
+        || {
+            proved = !proved;
+            switch(profile, &mut table, &state, at, proved, levels.columns())
+        },
+    )
+}
+
+fn of_look_up(oracle: &Oracle) -> Medians {
+    let table = &oracle.case.table;
+    let world = oracle.world();
+    let mut positions: Vec<_> = oracle.rows.iter().map(|row| row.position).collect();
+    positions.extend(oracle.rows.is_empty().then_some([0; 3]));
+    let (mut originals, mut proved) = (positions.iter().cycle(), positions.iter().cycle());
+    medians(
+        || (),
+        |()| originals.next().map(|at| world.get(pos(*at))),
+        || proved.next().map(|[x, y, z]| probe_find(table, *x, *y, *z)),
+    )
+}
+
+#[cfg(test)]
+mod tests {
+    #[test]
+    fn the_sides_agree_on_what_is_timed() {
+        super::cases().iter().for_each(super::assert_sides_agree);
+    }
+}

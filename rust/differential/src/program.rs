@@ -1,0 +1,82 @@
+//! The program `settle`, run on an input beside what document 01 says of it.
+
+use std::ffi::{OsStr, OsString};
+use std::fmt::Write as _;
+use std::io::{self, ErrorKind, Write};
+use std::path::Path;
+use std::process::{Command, Stdio};
+use std::{env, thread};
+
+use original::electrical::PoweredBlockState;
+
+use crate::generate::Case;
+use crate::oracle::{Oracle, pos};
+use crate::redstone::fresh_devices;
+use crate::refusals::Refusal;
+use crate::table::Row;
+
+const PROFILE_BYTES: usize = 13;
+pub const MOST_BYTES: usize = 32_781;
+
+/// The program, or a sentence that says what is missing.
+pub fn find() -> Result<OsString, String> {
+    let root = Path::new(env!("CARGO_MANIFEST_DIR")).join("../../target/bin/settle");
+    let program = env::var_os("SETTLE_BIN").unwrap_or(root.into());
+    if Path::new(&program).is_file() {
+        return Ok(program);
+    }
+    Err(format!(
+        "The program `settle` is not at {}: run `rt check settle` in the repository's root first, or set \
+         SETTLE_BIN to where it is.",
+        program.display()
+    ))
+}
+
+/// What the program writes to standard output for an input.
+pub fn written(program: &OsStr, input: &[u8]) -> io::Result<String> {
+    let mut running = Command::new(program).stdin(Stdio::piped()).stdout(Stdio::piped()).spawn()?;
+    let mut stdin = running.stdin.take().expect("standard input is piped");
+    let output = thread::scope(|scope| {
+        let writing = scope.spawn(move || stdin.write_all(input));
+        let output = running.wait_with_output()?;
+        match writing.join().expect("writing does not panic") {
+            // The program need not read what is past the most bytes.
+            Err(error) if error.kind() != ErrorKind::BrokenPipe => Err(error),
+            _ => Ok(output),
+        }
+    })?;
+    if output.status.code().is_none() {
+        return Err(io::Error::other(format!("the program did not end by itself: {}", output.status)));
+    }
+    Ok(String::from_utf8_lossy(&output.stdout).into_owned())
+}
+
+/// What it is to write.
+pub fn expected(input: &[u8]) -> String {
+    if input.len() > MOST_BYTES {
+        return refused(Refusal { number: 3, row: 0 });
+    }
+    let (profile, table) = input.split_at(input.len().min(PROFILE_BYTES));
+    let case = Case { seed: 0, sort: "", profile: profile.into(), table: table.into() };
+    let oracle = Oracle::new(&case);
+    match oracle.refusal {
+        Ok(()) => settled(&oracle),
+        Err(refusal) => refused(refusal),
+    }
+}
+
+fn refused(Refusal { number, row }: Refusal) -> String {
+    format!("refusal={number}\nplace={row}\n")
+}
+
+fn settled(oracle: &Oracle) -> String {
+    let settled = oracle.settle(&fresh_devices(oracle), 128).expect("128 rounds are enough");
+    let mut lines = format!("blocks={}\nrounds={}\n", oracle.rows.len(), settled.iterations);
+    for Row { position, .. } in &oracle.rows {
+        let [x, y, z] = position;
+        let signal = settled.signal(pos(*position));
+        let PoweredBlockState { weak, strong } = settled.power(pos(*position));
+        writeln!(lines, "row={x},{y},{z},{signal},{weak},{strong}").expect("a string can be written");
+    }
+    lines
+}

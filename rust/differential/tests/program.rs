@@ -1,0 +1,65 @@
+//! The program `settle` on accepted and damaged inputs.
+
+#[cfg(no_original)]
+#[test]
+fn the_original_was_not_found() {
+    differential::suite::say_original_not_found("program");
+}
+
+#[cfg(not(no_original))]
+mod compared {
+    use std::io::Write;
+
+    use differential::generate::{BENCH_PROFILE, Case};
+    use differential::program::{MOST_BYTES, expected, find, written};
+    use differential::suite::{good_cases, with_damaged};
+    use differential::table::{self, Row, kind};
+
+    /// Asserts that the program writes for each input what document 01 says, and gives that back.
+    fn assert_agrees(inputs: impl Iterator<Item = Vec<u8>>) -> Vec<String> {
+        let program = find().unwrap_or_else(|sentence| panic!("{sentence}"));
+        let agreed = |input: Vec<u8>| {
+            let actual = written(&program, &input).unwrap_or_else(|error| panic!("{error}, on {input:02x?}"));
+            assert_eq!(actual, expected(&input), "on the input {input:02x?}");
+            actual
+        };
+        inputs.map(agreed).collect()
+    }
+
+    fn input(case: Case) -> Vec<u8> {
+        [case.profile, case.table].concat()
+    }
+
+    #[test]
+    fn the_program_agrees_with_the_original() {
+        let outputs = assert_agrees(with_damaged(good_cases(200)).map(input));
+        let refused = outputs.iter().filter(|output| output.starts_with("refusal=")).count();
+        let counts = format!("{} inputs, {refused} of them refused", outputs.len());
+        writeln!(std::io::stdout(), "\nprogram: {counts}").expect("standard output can be written");
+    }
+
+    #[test]
+    fn inputs_of_every_length_about_the_ends() {
+        let rows: Vec<_> = (0..1025).map(|x| Row::new([x, 0, 0], kind::SOLID)).collect();
+        let long = [&BENCH_PROFILE[..], &table::encode(&rows)].concat();
+        let lengths = (0..=14).chain(43..=46).chain(76..=78).chain(MOST_BYTES - 33..=MOST_BYTES + 1);
+        assert_agrees(lengths.chain([long.len()]).map(|length| long[..length].to_vec()));
+        assert_agrees([32_814, 65_536, 65_549, 1_000_000].into_iter().map(|length| vec![0; length]));
+    }
+
+    /// Test 3 of the book.
+    #[test]
+    fn the_line_of_the_book() {
+        let rows = [
+            Row::new([0, 1, 0], kind::REDSTONE_BLOCK),
+            Row::new([1, 0, 0], kind::SOLID),
+            Row::new([1, 1, 0], kind::DUST),
+            Row::new([2, 0, 0], kind::SOLID),
+            Row::new([2, 1, 0], kind::DUST),
+        ];
+        let outputs = assert_agrees([[&BENCH_PROFILE[..], &table::encode(&rows)].concat()].into_iter());
+        let lines = "blocks=5\nrounds=4\nrow=0,1,0,15,0,0\nrow=1,0,0,0,15,0\nrow=1,1,0,15,0,0\n\
+                     row=2,0,0,0,14,0\nrow=2,1,0,14,0,0\n";
+        assert_eq!(outputs, [lines]);
+    }
+}

@@ -1,0 +1,155 @@
+//! The calls by hand: what they answer and write, and that each refusal comes through.
+
+use crate::{
+    Arm, BENCH_PROFILE, Columns, Facing, Kind, MOST_ROWS, ROW_BYTES, Refusal, Rounds, Row, STATE_BYTES,
+    Shape, fresh, settle, switch, table, tick,
+};
+
+const UNTOUCHED: u8 = 0xc3;
+
+/// Columns of one length, and what a call is to answer over them.
+struct Lent {
+    signal: Vec<u8>,
+    weak: Vec<u8>,
+    strong: Vec<u8>,
+}
+
+impl Lent {
+    fn new(rows: usize) -> Self {
+        let [signal, weak, strong] = [(); 3].map(|()| vec![UNTOUCHED; rows]);
+        Self { signal, weak, strong }
+    }
+
+    fn columns(&mut self) -> Columns<'_> {
+        Columns { signal: &mut self.signal, weak: &mut self.weak, strong: &mut self.strong }
+    }
+
+    fn untouched(&self) -> bool {
+        [&self.signal, &self.weak, &self.strong].into_iter().flatten().all(|byte| *byte == UNTOUCHED)
+    }
+}
+
+fn rounds(answer: Result<Rounds, Refusal>) -> u32 {
+    answer.unwrap_or_else(|refusal| panic!("{refusal}")).get()
+}
+
+/// A lamp with a lever on it.
+fn lamp(powered: bool) -> Vec<u8> {
+    let lever = Row::new(Kind::Lever, [0, 1, 0]).support([0, -1, 0]).powered(powered);
+    table([lever, Row::new(Kind::RedstoneLamp, [0, 0, 0])])
+}
+
+/// Tests 1 and 2 of the book.
+#[test]
+fn the_smallest_tables_settle() {
+    let settled = |table: &[u8], limit| {
+        let mut lent = Lent::new(table.len() / ROW_BYTES);
+        let devices = vec![0; table.len() / ROW_BYTES];
+        (settle(&BENCH_PROFILE, table, &devices, limit, lent.columns()), lent.signal)
+    };
+    assert_eq!(rounds(settled(&[], 128).0), 1);
+    assert_eq!(settled(&[], 0).0, Err(Refusal { number: 8, row: 0 }));
+    assert_eq!(rounds(settled(&table([Row::new(Kind::Solid, [0; 3])]), 128).0), 2);
+    let (answer, signal) = settled(&table([Row::new(Kind::RedstoneBlock, [0; 3])]), 128);
+    assert_eq!((rounds(answer), signal), (1, vec![15]));
+}
+
+#[test]
+fn a_lever_is_thrown_and_its_lamp_goes_out() {
+    let (mut table, mut state) = (lamp(true), vec![UNTOUCHED; 2 * STATE_BYTES]);
+    let mut lent = Lent::new(2);
+    rounds(fresh(&BENCH_PROFILE, &table, &mut state, lent.columns()));
+    assert_eq!((state[2], &lent.strong[..]), (1, &[15, 0][..]));
+
+    rounds(switch(&BENCH_PROFILE, &mut table, &state, [0, 1, 0], false, lent.columns()));
+    assert_eq!((&table, &lent.strong[..]), (&lamp(false), &[0, 0][..]));
+
+    let lit = |ticks| {
+        let (mut later, mut lent) = (state.clone(), Lent::new(2));
+        rounds(tick(&BENCH_PROFILE, &table, &mut later, 0, ticks, lent.columns()));
+        later[2]
+    };
+    assert_eq!([0, 1, 2, 3].map(lit), [1, 1, 1, 0]);
+}
+
+#[test]
+fn each_refusal_has_its_word_and_writes_nothing() {
+    let good = lamp(true);
+    let bad_row = [&good[..ROW_BYTES], &[0; ROW_BYTES]].concat();
+    let misplaced = [&good[..ROW_BYTES], &good[..ROW_BYTES]].concat();
+    let crowded = vec![0; (MOST_ROWS + 1) * ROW_BYTES];
+    let settled = |profile: &[u8], table: &[u8], devices: &[u8], limit, rows| {
+        let mut lent = Lent::new(rows);
+        let answer = settle(profile, table, devices, limit, lent.columns());
+        assert!(lent.untouched());
+        answer
+    };
+    let ticked = |mut state: Vec<u8>, tick_number, ticks| {
+        let (mut lent, before) = (Lent::new(2), state.clone());
+        let answer = tick(&BENCH_PROFILE, &good, &mut state, tick_number, ticks, lent.columns());
+        assert!(lent.untouched() && state == before);
+        answer
+    };
+    let bench = &BENCH_PROFILE;
+    let answers = [
+        (settled(&bench[..12], &good, &[0; 2], 17, 2), 1, 0, "profile"),
+        (settled(bench, &good[..63], &[0; 2], 17, 2), 2, 0, "ragged"),
+        (settled(bench, &crowded, &[0; 2], 17, 2), 3, 0, "crowded"),
+        (settled(bench, &bad_row, &[0; 2], 17, 2), 4, 1, "bad row"),
+        (settled(bench, &misplaced, &[0; 2], 17, 2), 5, 1, "misplaced"),
+        (settled(bench, &good, &[0, 1], 17, 2), 6, 1, "bad state"),
+        (settled(bench, &good, &[0; 2], 17, 3), 7, 0, "column"),
+        (settled(bench, &good, &[0; 2], 1, 2), 8, 0, "unsettled"),
+        (ticked(vec![0; 2 * STATE_BYTES], u32::MAX, 1), 9, 0, "clock end"),
+        (ticked(vec![0; STATE_BYTES], 0, 1), 6, 0, "bad state"),
+    ];
+    for (answer, number, row, word) in answers {
+        assert_eq!(answer, Err(Refusal { number, row }));
+        assert_eq!(Refusal { number, row }.kind().to_string(), word);
+    }
+    let message = Refusal { number: 4, row: 1 }.to_string();
+    assert_eq!(message, "refusal 4, bad row: correct row 1, which has a field outside the layout");
+}
+
+#[test]
+fn fresh_and_switch_refuse_what_they_are_lent() {
+    let mut table = lamp(true);
+    let (mut state, mut lent) = (vec![UNTOUCHED; 2 * STATE_BYTES + 1], Lent::new(2));
+    let refused = fresh(&BENCH_PROFILE, &table, &mut state, lent.columns());
+    assert_eq!(refused, Err(Refusal { number: 7, row: 0 }));
+    let refused = switch(&BENCH_PROFILE, &mut table, &state, [0, 1, 0], false, lent.columns());
+    assert_eq!(refused, Err(Refusal { number: 6, row: 0 }));
+    assert!(lent.untouched() && state.iter().all(|byte| *byte == UNTOUCHED) && table == lamp(true));
+}
+
+#[test]
+fn a_row_packs_each_field() {
+    let row = Row::new(Kind::Comparator, [1, -2, 1_000_000])
+        .facing(Facing::West)
+        .powered(true)
+        .power_level(200)
+        .delay(3)
+        .support([1, 0, -1])
+        .arms([Some(Arm::None), Some(Arm::Side), Some(Arm::Up), None])
+        .shape(Shape::Glass)
+        .subtract();
+    let bytes = [
+        [1, 0, 0, 0, 0xfe, 0xff, 0xff, 0xff],
+        [0x40, 0x42, 0x0f, 0, 6, 4, 2, 1],
+        [200, 1, 3, 1, 1, 0, 255, 1],
+        [1, 2, 3, 0, 6, 1, 0, 0],
+    ];
+    assert_eq!(row.bytes(), bytes.as_flattened());
+    assert_eq!(Row::new(Kind::Piston, [0; 3]).bytes()[12..], [[12].as_slice(), &[0; 19]].concat());
+    assert_eq!(Row::new(Kind::Lever, [0; 3]).powered(false).bytes()[14], 1);
+}
+
+#[test]
+fn a_table_is_ordered_by_x_then_y_then_z() {
+    let at = |position| Row::new(Kind::Solid, position);
+    let rows = [[-1, 5, 5], [0, -1, 9], [0, 0, -7], [0, 0, 300], [0, 1, 0], [256, 0, 0]].map(at);
+    let ordered = rows.map(|row| row.bytes());
+    let mut other = rows;
+    other.reverse();
+    assert_eq!(table(other), ordered.as_flattened());
+}
