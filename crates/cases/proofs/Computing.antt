@@ -19,8 +19,8 @@ use Rattle.redraw.specs.Redraw.{entryOf, entriesOf, withOpposite, drawn, redraw
 use Rattle.electrical.specs.Emitted.{goodDevice, checkDevices, switchLevel, emittedLevel, emitted}
 use Rattle.electrical.specs.Edges.{outputsTo, isHeldBy, isCharged, strongly, through, armTo, alongArm, under, touches, feeds, lights, drives, networkOf}
 use Rattle.electrical.specs.Answer.{roundsOf, settled, checkCall, checkSettle}
-use Rattle.devices.specs.Row.{delayOf, bitsSet, isCandidate, goodQueue, goodLamp, goodTorch, goodState}
-use Rattle.devices.specs.Fresh.{freshDevice, freshQueue, freshLamp, freshRow}
+use Rattle.states.specs.Row.{delayOf, bitsSet, isCandidate, goodQueue, goodLamp, goodTorch, goodState}
+use Rattle.states.specs.Fresh.{freshDevice, freshQueue, freshLamp, freshRow}
 use Rattle.devices.specs.Step.{repeaterInputLevel, isRequested, locksFrom, isLocked, nextQueue, repeaterRow, torchSupportIsPowered, nextToggles, nextCandidate, torchRow, compared, nextComparator, deviceRow, nextLit, nextLeft, lampRow}
 use Rattle.sim.specs.State.{devicesOf, checkState, freshDevices, freshState}
 use Rattle.sim.specs.Tick.{withDevices, withLamps, settledOf, setDevices, setLamps, tick, ticks}

@@ -1,5 +1,6 @@
-// What every crate above shares: a byte of a slice, whether two slices are the same, and the answer of a search.
+// What every crate above shares: a byte of a slice, whether two slices are the same, the larger of two levels, and the answer of a search.
 ghost use mathlib.Core.Path.{_≡_};
+ghost use Prim.Native.Nat.{max};
 ghost use lib.ListN.{getD};
 ghost use Rattle.columns.specs.Column.{same};
 
@@ -17,6 +18,12 @@ pub fn byte_at(s: &[u8], at: usize) -> u8
         return s[at];
     }
     0
+}
+
+pub fn larger(x: u8, y: u8) -> u8
+    ensures { λ r. ⌜ r ≡ max x y ⌝ }
+{
+    if x < y { y } else { x }
 }
 
 // Whether two slices hold the same bytes.

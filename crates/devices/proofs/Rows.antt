@@ -15,9 +15,9 @@ use Rattle.world.specs.Rows.{kindOf}
 use Rattle.connectivity.specs.declared.Sides.{Sides}
 use Rattle.connectivity.specs.declared.Sides.the-variants.{Both, Neither}
 use Rattle.connectivity.specs.Ports.{sidesOf}
-use Rattle.devices.specs.Row.{deviceOf, togglesOf, candidateOf, isCandidate}
-use Rattle.devices.specs.Fresh.{numbersOf, powersOf, freshLamp, freshRow}
-use Rattle.devices.specs.Step.{number, repeaterInputLevel, isRequested, isLocked, repeaterRow, torchSupportIsPowered, nextTorch, nextToggles, nextCandidate, setToggles, torchRow, sideLevel, nextComparator, deviceRow, lampRow}
+use Rattle.states.specs.Row.{number, deviceOf, togglesOf, candidateOf, isCandidate}
+use Rattle.states.specs.Fresh.{numbersOf, powersOf}
+use Rattle.devices.specs.Step.{repeaterInputLevel, isRequested, isLocked, repeaterRow, torchSupportIsPowered, nextTorch, nextToggles, nextCandidate, setToggles, torchRow, sideLevel, nextComparator, deviceRow, lampRow}
 
 -- what holds of both choices holds of the one taken
 choose : (P : Bytes → Type 0) (b : Bool) {x y : Bytes} → P x → P y → P (cond b x y)
@@ -47,7 +47,7 @@ module _ (p t : Bytes) (d : Column) (s : State) (i : ℕ) (r : Bytes) where
 
   length-repeater : length (repeaterRow p t d s i r) ≡ length r
   unfolding repeaterRow
-  length-repeater = choose (λ x. length x ≡ length r) (isLocked p t d i) refl (length-two r 0 1 _ _)
+  length-repeater = choose (λ x. length x ≡ length r) (isLocked t d i) refl (length-two r 0 1 _ _)
 
   length-torch : length (torchRow p t s i r) ≡ length r
   unfolding torchRow
@@ -64,10 +64,6 @@ module _ (p t : Bytes) (d : Column) (s : State) (i : ℕ) (r : Bytes) where
   unfolding lampRow
   length-lamp = choose (λ x. length x ≡ length r) (eqb (kindOf t i) RedstoneLamp) (length-two r 2 3 _ _) refl
 
-  pub length-fresh : length (freshRow t s i) ≡ 16
-  unfolding freshRow
-  length-fresh = refl
-
   -- ---- no step reads which rows the power map holds, and a lamp reads no signal
 
   comparator-reads : nextComparator t (numbersOf (s .signal) (s .weak) (s .strong)) i ≡ nextComparator t s i
@@ -81,10 +77,6 @@ module _ (p t : Bytes) (d : Column) (s : State) (i : ℕ) (r : Bytes) where
   pub lamp-reads : lampRow t (powersOf (s .weak) (s .strong)) i r ≡ lampRow t s i r
   unfolding lampRow
   lamp-reads = refl
-
-  pub fresh-reads : freshRow t (powersOf (s .weak) (s .strong)) i ≡ freshRow t s i
-  unfolding freshLamp freshRow
-  fresh-reads = refl
 
   -- ---- what a step leaves alone
 
@@ -107,7 +99,7 @@ module _ (p t : Bytes) (d : Column) (s : State) (i : ℕ) (r : Bytes) where
   repeater-candidate : candidateOf (repeaterRow p t d s i r) ≡ candidateOf r
   unfolding repeaterRow
   repeater-candidate =
-      choose (λ x. candidateOf x ≡ candidateOf r) (isLocked p t d i) refl
+      choose (λ x. candidateOf x ≡ candidateOf r) (isLocked t d i) refl
       (getD-set-other (set r 0 _) 1 8 _ 0 (λ e. omega arith) ∙ getD-set-other r 0 8 _ 0 (λ e. omega arith))
 
   torch-candidate : 8 < length r → candidateOf r ≤ candidateOf (torchRow p t s i r)

@@ -18,32 +18,11 @@ use Rattle.network.specs.Network.{State}
 use Rattle.blocks.specs.Kind.{RedstoneTorch, Repeater, Comparator, RedstoneLamp}
 use Rattle.world.specs.Rows.{kindOf}
 use Rattle.electrical.specs.Emitted.{goodDevice}
-use Rattle.devices.specs.Row.{deviceOf, delayOf, isCandidate, goodQueue, goodLamp, goodTorch, goodRest, goodState}
-use Rattle.devices.specs.Fresh.{hasPower}
-use Rattle.devices.specs.Step.{number, isRequested, isLocked, nextQueue, repeaterRow, torchSupportIsPowered, nextTorch, nextToggles, nextCandidate, torchRow, nextComparator, deviceRow, nextLit, nextLeft, lampRow}
-use Rattle.devices.proofs.Powers.{delay-range}
-
--- ---- the five tests of a row
-
-pub record Parts (t : Bytes) (i : ℕ) (r : Bytes) : Type 0 where
-  pub device : goodDevice (kindOf t i) (deviceOf r) ≡ true
-  pub queue : goodQueue t i r ≡ true
-  pub lamp : goodLamp t i r ≡ true
-  pub torch : goodTorch t i r ≡ true
-  pub rest : goodRest r ≡ true
-
-pub parts : (t : Bytes) (i : ℕ) (r : Bytes) → goodState t i r ≡ true → Parts t i r
-unfolding goodState
-parts t i r h =
-    let (a, h1) = and-true (goodDevice (kindOf t i) (deviceOf r)) _ h in
-    let (b, h2) = and-true (goodQueue t i r) _ h1 in
-    let (c, h3) = and-true (goodLamp t i r) _ h2 in
-    let (d, e) = and-true (goodTorch t i r) _ h3 in
-    record { device = a; queue = b; lamp = c; torch = d; rest = e }
-
-pub whole : (t : Bytes) (i : ℕ) (r : Bytes) → Parts t i r → goodState t i r ≡ true
-unfolding goodState
-whole t i r p = rw (p .device, p .queue, p .lamp, p .torch, p .rest)
+use Rattle.states.specs.Row.{number, deviceOf, delayOf, isCandidate, goodQueue, goodLamp, goodTorch, goodRest, goodState}
+use Rattle.states.specs.Fresh.{hasPower}
+use Rattle.devices.specs.Step.{isRequested, isLocked, nextQueue, repeaterRow, torchSupportIsPowered, nextTorch, nextToggles, nextCandidate, torchRow, nextComparator, deviceRow, nextLit, nextLeft, lampRow}
+use Rattle.states.proofs.Powers.{delay-range}
+use Rattle.states.proofs.Parts.{Parts}
 
 -- what holds of every row that is written out byte by byte holds of every row
 every-row : (P : Bytes → Type 0) → ((a b c d e f g h k : ℕ) (rest : Bytes) → P (a ∷ b ∷ c ∷ d ∷ e ∷ f ∷ g ∷ h ∷ k ∷ rest)) → (r : Bytes) → length r ≡ 16 → P r
@@ -146,7 +125,7 @@ module _ (p t : Bytes) (d : Column) (s : State) (i : ℕ) where
         rest = v .rest;
       }
 
-  repeater-on : kindOf t i ≡ Repeater → isLocked p t d i ≡ false → (a b c e f g h j k : ℕ) (rest : Bytes)
+  repeater-on : kindOf t i ≡ Repeater → isLocked t d i ≡ false → (a b c e f g h j k : ℕ) (rest : Bytes)
       → Parts t i (a ∷ b ∷ c ∷ e ∷ f ∷ g ∷ h ∷ j ∷ k ∷ rest) → Parts t i (repeaterRow p t d s i (a ∷ b ∷ c ∷ e ∷ f ∷ g ∷ h ∷ j ∷ k ∷ rest))
   unfolding goodDevice goodQueue goodLamp goodTorch repeaterRow
   repeater-on kind free a b c e f g h j k rest v =
@@ -174,9 +153,9 @@ module _ (p t : Bytes) (d : Column) (s : State) (i : ℕ) where
 
   repeater-good : kindOf t i ≡ Repeater → (r : Bytes) → length r ≡ 16 → Parts t i r → Parts t i (repeaterRow p t d s i r)
   unfolding repeaterRow
-  repeater-good kind r h v = go (isLocked p t d i) refl
+  repeater-good kind r h v = go (isLocked t d i) refl
     where
-      go : (b : Bool) → isLocked p t d i ≡ b → Parts t i (repeaterRow p t d s i r)
+      go : (b : Bool) → isLocked t d i ≡ b → Parts t i (repeaterRow p t d s i r)
       go true e = rw e v
       go false e = every-row (λ r. Parts t i r → Parts t i (repeaterRow p t d s i r)) (repeater-on kind e) r h v
 

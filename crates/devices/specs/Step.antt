@@ -17,11 +17,8 @@ use Rattle.connectivity.specs.declared.Sides.{Sides}
 use Rattle.connectivity.specs.declared.Sides.the-variants.{Both, Neither}
 use Rattle.connectivity.specs.Ports.{inputOf, sidesOf}
 use Rattle.electrical.specs.Edges.{outputsTo}
-use Rattle.devices.specs.Row.{deviceOf, queueOf, litOf, leftOf, togglesOf, candidateOf, delayOf, isCandidate}
-use Rattle.devices.specs.Fresh.{powerAt, hasPower}
-
-abbrev pub number : Bool → ℕ
-number b = cond b 1 0
+use Rattle.states.specs.Row.{number, deviceOf, queueOf, litOf, leftOf, togglesOf, candidateOf, delayOf, isCandidate}
+use Rattle.states.specs.Fresh.{powerAt, hasPower}
 
 -- ---- the repeater of row i, with the old device column d and the old settled state s
 
@@ -33,10 +30,10 @@ repeaterInputLevel p t s j = cond (readsBlockPower p (kindOf t j)) (powerAt s j)
 unfoldable pub isRequested : Bytes → Bytes → State → ℕ → Bool
 isRequested p t s i = not (eqb (onFound (repeaterInputLevel p t s) 0 (findAt t (inputOf t i))) 0)
 
-module _ (p t : Bytes) (d : Column) (i : ℕ) where
+module _ (t : Bytes) (d : Column) (i : ℕ) where
   -- a repeater or comparator at q outputs into row i and is on
   unfoldable pub locksFrom : Pos → Bool
-  locksFrom q = onFound (λ j. outputsTo p t j i && not (eqb (row d j) 0)) false (find t q)
+  locksFrom q = onFound (λ j. outputsTo t j i && not (eqb (row d j) 0)) false (find t q)
 
   abbrev pub lockedBy : Sides → Bool
   lockedBy (Both a b) = locksFrom a || locksFrom b
@@ -54,7 +51,7 @@ nextQueue q delay requested = q / 2 + number requested * 2 ^ (delay - 1)
 unfoldable pub repeaterRow : Bytes → Bytes → Column → State → ℕ → Bytes → Bytes
 repeaterRow p t d s i r =
     let q = nextQueue (queueOf r) (delayOf t i) (isRequested p t s i) in
-    cond (isLocked p t d i) r (set (set r 0 (q % 2)) 1 q)
+    cond (isLocked t d i) r (set (set r 0 (q % 2)) 1 q)
 
 -- ---- the torch of row i
 

@@ -1,17 +1,17 @@
 // A comparator's step.
-use crate::level::larger;
-use crate::level::power_at;
 use columns::Found;
 use columns::byte_at;
+use columns::larger;
 use connectivity::Sides;
 use places::Pos;
+use states::level::power_at;
 use world::find::find;
 use world::find::find_at;
 ghost use mathlib.Core.Path.{_≡_};
 ghost use Rattle.columns.specs.First.{onFound};
 ghost use Rattle.world.specs.Find.{findAt};
 ghost use Rattle.connectivity.specs.Ports.{inputOf};
-ghost use Rattle.devices.specs.Fresh.{numbersOf};
+ghost use Rattle.states.specs.Fresh.{numbersOf};
 ghost use Rattle.devices.specs.Step.{electricalLevel, levelAt, sideLevel, compared, nextComparator};
 
 // The largest of signal, weak and strong power at a row.

@@ -1,17 +1,14 @@
-// One row's sixteen bytes of state: whether they are valid, the fresh ones, and what a tick makes of them.
-mod bits;
+// What a tick makes of one row's sixteen bytes of state.
 mod comparator;
-pub mod fresh;
 mod lamp;
-mod level;
 mod repeater;
-pub mod row;
 mod torch;
 
 use blocks::kind;
+use states::level::has_power;
 ghost use mathlib.Core.Path.{_≡_};
 ghost use lib.ListN.{length};
-ghost use Rattle.devices.specs.Fresh.{numbersOf, powersOf};
+ghost use Rattle.states.specs.Fresh.{numbersOf, powersOf};
 ghost use Rattle.devices.specs.Step.{deviceRow, lampRow};
 
 // The device of a row, by its kind, from the old devices and the old settled columns. The row's own bytes are lent.
@@ -48,7 +45,7 @@ pub fn lamp_step(table: &[u8], weak: &[u8], strong: &[u8], row: usize, sixteen: 
     ensures { λ _. ⌜ now (sixteen .exit) ≡ lampRow (now (table .entry)) (powersOf (now (weak .entry)) (now (strong .entry))) row (now (sixteen .entry)) ⌝ }
 {
     if world::row::kind_of(table, row) == kind::REDSTONE_LAMP {
-        let power = level::has_power(weak, strong, row);
+        let power = has_power(weak, strong, row);
         let lit = sixteen[2];
         let left = sixteen[3];
         sixteen[2] = lamp::next_lit(power, lit, left);

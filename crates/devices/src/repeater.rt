@@ -1,20 +1,19 @@
 // A repeater's step.
-use crate::bits::two_to;
-use crate::level::power_at;
-use crate::row::delay_of;
 use columns::Found;
 use columns::byte_at;
 use connectivity::Sides;
 use electrical::edges::outputs_to;
 use places::Pos;
+use states::bits::two_to;
+use states::level::power_at;
+use states::row::delay_of;
 use world::find::find;
 use world::find::find_at;
 use world::row::kind_of;
 ghost use mathlib.Core.Path.{_≡_};
 ghost use Prim.Native.Nat.{_≤_};
 ghost use lib.ListN.{length};
-ghost use Rattle.columns.specs.Column.{Bytes};
-ghost use Rattle.devices.specs.Fresh.{numbersOf};
+ghost use Rattle.states.specs.Fresh.{numbersOf};
 ghost use Rattle.devices.specs.Step.{repeaterInputLevel, isRequested, locksFrom, isLocked, nextQueue, repeaterRow};
 
 // What a repeater reads at a row: block power where the profile says so, else signal.
@@ -53,7 +52,7 @@ fn is_requested(
 
 // Whether a repeater or comparator at the position outputs into the row and is on.
 fn locks_from(table: &[u8], devices: &[u8], row: usize, q: Pos) -> bool
-    ensures { λ r. ⌜ ((p : Bytes) → r ≡ locksFrom p (now (table .entry)) (now (devices .entry)) row q) ⌝ }
+    ensures { λ r. ⌜ r ≡ locksFrom (now (table .entry)) (now (devices .entry)) row q ⌝ }
 {
     let Found::At(j) = find(table, q) else {
         return false;
@@ -62,7 +61,7 @@ fn locks_from(table: &[u8], devices: &[u8], row: usize, q: Pos) -> bool
 }
 
 fn is_locked(table: &[u8], devices: &[u8], row: usize) -> bool
-    ensures { λ r. ⌜ ((p : Bytes) → r ≡ isLocked p (now (table .entry)) (now (devices .entry)) row) ⌝ }
+    ensures { λ r. ⌜ r ≡ isLocked (now (table .entry)) (now (devices .entry)) row ⌝ }
 {
     let sides = connectivity::sides_of(table, row);
     match sides {

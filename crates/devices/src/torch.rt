@@ -1,14 +1,14 @@
 // A torch's step.
-use crate::bits::is_candidate;
-use crate::level::has_power;
-use crate::level::larger;
-use crate::level::number;
-use crate::row::toggles_of;
 use columns::Found;
+use columns::larger;
+use states::bits::is_candidate;
+use states::level::has_power;
+use states::level::number;
+use states::row::toggles_of;
 use world::find::find_at;
 ghost use mathlib.Core.Path.{_≡_};
 ghost use lib.ListN.{length};
-ghost use Rattle.devices.specs.Fresh.{powersOf};
+ghost use Rattle.states.specs.Fresh.{powersOf};
 ghost use Rattle.devices.specs.Step.{torchSupportIsPowered, nextToggles, nextCandidate, setToggles, torchRow};
 
 fn torch_support_is_powered(

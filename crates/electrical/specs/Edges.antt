@@ -19,7 +19,7 @@ abbrev pub someOf : (ℕ → Bool) → List ℕ → Bool
 someOf test [] = false
 someOf test (f ∷ fs) = test f || someOf test fs
 
-module _ (p t : Bytes) (j i : ℕ) where
+module _ (t : Bytes) (j i : ℕ) where
   -- row j is a repeater or comparator, and its output is row i
   unfoldable pub outputsTo : Bool
   outputsTo = isDiode (kindOf t j) && isAt (outputOf t j) (posOf t i)
@@ -32,10 +32,16 @@ module _ (p t : Bytes) (j i : ℕ) where
   unfoldable pub isCharged : Bool
   isCharged = eqb (kindOf t j) RedstoneBlock && adjacent (posOf t j) (posOf t i)
 
+  -- row i being dust, "the emitted level of lever, button, plate, torch, redstone block, or of a repeater or comparator whose output is
+  -- this dust"
+  unfoldable pub feeds : Bool
+  feeds = isSource (kindOf t j) || outputsTo
+
+module _ (p t : Bytes) (j i : ℕ) where
   -- "Strong power: lever, button, plate reach their support, repeater and comparator their output, redstone block its six
   -- neighbours, where the target receives strong"
   unfoldable pub strongly : Bool
-  strongly = traits p t i .strong && (isHeldBy || (outputsTo || isCharged))
+  strongly = traits p t i .strong && (isHeldBy t j i || (outputsTo t j i || isCharged t j i))
 
   -- "a strongly powered block reaches its six neighbours .. where the target receives weak"
   unfoldable pub through : Bool
@@ -60,17 +66,13 @@ module _ (p t : Bytes) (j i : ℕ) where
   touches =
       samePos (above (posOf t i)) (posOf t j) || (samePos (below (posOf t i)) (posOf t j) || alongArm p t i j)
 
-  -- "the emitted level of lever, button, plate, torch, redstone block, or of a repeater or comparator whose output is this dust"
-  unfoldable pub feeds : Bool
-  feeds = isSource (kindOf t j) || outputsTo p t j i
-
   -- the direct level is the emitted level
   unfoldable pub lights : Bool
-  lights = isDust (kindOf t i) && (feeds && touches)
+  lights = isDust (kindOf t i) && (feeds t j i && touches)
 
   -- "otherwise strong power where the neighbour drives dust"
   unfoldable pub drives : Bool
-  drives = isDust (kindOf t i) && (not feeds && (traits p t j .drives && touches))
+  drives = isDust (kindOf t i) && (not (feeds t j i) && (traits p t j .drives && touches))
 
 -- "The map holds the rows that receive weak or strong"
 unfoldable pub networkOf : Bytes → Bytes → Network

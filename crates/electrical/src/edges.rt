@@ -14,7 +14,6 @@ use world::row::support_pos;
 use world::traits::redstone_traits;
 ghost use mathlib.Core.Path.{_≡_};
 ghost use mathlib.Core.Bool.{_||_};
-ghost use Rattle.columns.specs.Column.{Bytes};
 ghost use Rattle.blocks.specs.Kind.{isSwitch};
 ghost use Rattle.places.specs.Places.{beside, below, samePos, adjacent, isAt};
 ghost use Rattle.world.specs.Rows.{posOf};
@@ -56,9 +55,9 @@ fn is_adjacent(p: Pos, q: Pos) -> bool
                     | (is_beside(p, Facing::SOUTH, q) | is_beside(p, Facing::NORTH, q)))))
 }
 
-// Whether row j is a repeater or comparator whose output is row i, under any profile.
+// Whether row j is a repeater or comparator whose output is row i.
 pub fn outputs_to(table: &[u8], j: usize, i: usize) -> bool
-    ensures { λ r. ⌜ ((p : Bytes) → r ≡ outputsTo p (now (table .entry)) j i) ⌝ }
+    ensures { λ r. ⌜ r ≡ outputsTo (now (table .entry)) j i ⌝ }
 {
     if is_diode(kind_of(table, j)) {
         return is_at(output_of(table, j), pos_of(table, i));
@@ -68,7 +67,7 @@ pub fn outputs_to(table: &[u8], j: usize, i: usize) -> bool
 
 // Whether row i is the support of the lever, button or plate j.
 fn is_held_by(table: &[u8], j: usize, i: usize) -> bool
-    ensures { λ r. ⌜ ((p : Bytes) → r ≡ isHeldBy p (now (table .entry)) j i) ⌝ }
+    ensures { λ r. ⌜ r ≡ isHeldBy (now (table .entry)) j i ⌝ }
 {
     if is_switch(kind_of(table, j)) {
         return is_at(support_pos(table, j), pos_of(table, i));
@@ -78,7 +77,7 @@ fn is_held_by(table: &[u8], j: usize, i: usize) -> bool
 
 // Whether row i is a neighbour of the redstone block j.
 fn is_charged(table: &[u8], j: usize, i: usize) -> bool
-    ensures { λ r. ⌜ ((p : Bytes) → r ≡ isCharged p (now (table .entry)) j i) ⌝ }
+    ensures { λ r. ⌜ r ≡ isCharged (now (table .entry)) j i ⌝ }
 {
     if kind_of(table, j) == kind::REDSTONE_BLOCK {
         return is_adjacent(pos_of(table, j), pos_of(table, i));
@@ -166,7 +165,7 @@ fn touches(profile: &[u8], table: &[u8], j: usize, i: usize) -> bool
 
 // Whether row j gives dust i its emitted level, once the two touch.
 fn feeds(table: &[u8], j: usize, i: usize) -> bool
-    ensures { λ r. ⌜ ((p : Bytes) → r ≡ feeds p (now (table .entry)) j i) ⌝ }
+    ensures { λ r. ⌜ r ≡ feeds (now (table .entry)) j i ⌝ }
 {
     is_source(kind_of(table, j)) | outputs_to(table, j, i)
 }

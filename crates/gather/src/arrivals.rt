@@ -1,6 +1,6 @@
 // What arrives from sources that no round changes.
-use crate::larger;
 use blocks::kind;
+use columns::larger;
 use electrical::edges;
 use electrical::output::component_output_level;
 use world::row::kind_of;

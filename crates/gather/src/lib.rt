@@ -2,12 +2,3 @@
 pub mod arrivals;
 mod seek;
 pub mod slots;
-
-ghost use mathlib.Core.Path.{_≡_};
-ghost use Prim.Native.Nat.{max};
-
-pub fn larger(x: u8, y: u8) -> u8
-    ensures { λ r. ⌜ r ≡ max x y ⌝ }
-{
-    if x < y { y } else { x }
-}

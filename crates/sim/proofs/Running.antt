@@ -13,7 +13,7 @@ use Rattle.electrical.proofs.Demand.{rounds-range}
 use Rattle.solver.specs.declared.Outcome.{Outcome}
 use Rattle.solver.specs.declared.Outcome.the-variants as Outcome
 use Rattle.solver.specs.Outcome.{outcomeOf, Solves}
-use Rattle.devices.specs.Fresh.{numbersOf, powersOf}
+use Rattle.states.specs.Fresh.{numbersOf, powersOf}
 use Rattle.sim.specs.State.{devicesOf, IsValidState}
 use Rattle.sim.specs.Tick.{withDevices, withLamps, settledOf, setDevices, setLamps, tick, ticks}
 use Rattle.sim.specs.Running.{Room, Ready, Stands, Settled}

@@ -11,10 +11,11 @@ use Rattle.columns.proofs.Parts.{length-part, length-joined, part-joined}
 use Rattle.network.specs.Network.{State}
 use Rattle.world.specs.Rows.{rows}
 use Rattle.electrical.specs.Answer.{settled}
-use Rattle.devices.specs.Row.{deviceOf, candidateOf}
-use Rattle.devices.specs.Fresh.{numbersOf, powersOf, freshRow}
+use Rattle.states.specs.Row.{deviceOf, candidateOf}
+use Rattle.states.specs.Fresh.{numbersOf, powersOf, freshRow}
 use Rattle.devices.specs.Step.{deviceRow, lampRow}
-use Rattle.devices.proofs.Rows.{length-device, length-lamp, device-reads, lamp-reads, fresh-reads, lamp-device, lamp-candidate, device-candidate}
+use Rattle.devices.proofs.Rows.{length-device, length-lamp, device-reads, lamp-reads, lamp-device, lamp-candidate, device-candidate}
+use Rattle.states.proofs.FreshRows.{fresh-reads}
 use Rattle.sim.specs.State.{sixteen, devicesOf, freshDevices, freshState}
 use Rattle.sim.specs.Tick.{withDevices, withLamps, settledOf, setDevices, setLamps, tick, ticks}
 
@@ -31,7 +32,7 @@ module _ (p t : Bytes) (d : Column) (s : State) (st : Bytes) where
 
 pub fresh-read : (p t : Bytes) → (let s = settled p t (freshDevices t) in joined (rows t) (freshRow t (powersOf (s .weak) (s .strong)))) ≡ freshState p t
 unfolding freshState
-fresh-read p t = let s = settled p t (freshDevices t) in λ x. joined (rows t) (λ i. fresh-reads p t (freshDevices t) s i t x)
+fresh-read p t = let s = settled p t (freshDevices t) in λ x. joined (rows t) (λ i. fresh-reads t s i x)
 
 -- ---- the rows of a tick
 

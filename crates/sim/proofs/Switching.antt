@@ -28,7 +28,7 @@ use Rattle.refusals.proofs.Fields.{good-fields}
 use Rattle.electrical.specs.Emitted.{IsValid}
 use Rattle.electrical.proofs.Devices.{valid-devices, devices-valid}
 use Rattle.wire.proofs.Alike.{Alike, same-rows, same-kind, same-place}
-use Rattle.devices.specs.Row.{deviceOf}
+use Rattle.states.specs.Row.{deviceOf}
 use Rattle.sim.specs.State.{sixteen, devicesOf}
 use Rattle.sim.specs.Calls.{switched}
 

@@ -17,11 +17,11 @@ use Rattle.refusals.proofs.Passed.{passed-unless, passed-at}
 use Rattle.electrical.specs.Emitted.{IsValid}
 use Rattle.electrical.specs.Answer.{settled}
 use Rattle.electrical.proofs.Devices.{devices-valid}
-use Rattle.devices.specs.Row.{deviceOf, goodState}
-use Rattle.devices.specs.Fresh.{freshDevice, freshRow}
-use Rattle.devices.proofs.Rows.{length-fresh}
-use Rattle.devices.proofs.Valid.{parts, whole, device-good, lamp-good}
-use Rattle.devices.proofs.FreshValid.{fresh-device, fresh-good}
+use Rattle.states.specs.Row.{deviceOf, goodState}
+use Rattle.states.specs.Fresh.{freshDevice, freshRow}
+use Rattle.states.proofs.Parts.{parts, whole}
+use Rattle.states.proofs.FreshRows.{length-fresh, fresh-device, fresh-good}
+use Rattle.devices.proofs.Valid.{device-good, lamp-good}
 use Rattle.sim.specs.State.{sixteen, devicesOf, isBadState, checkState, IsValidState, freshDevices, freshState}
 use Rattle.sim.specs.Tick.{settledOf, setDevices, tick, ticks}
 use Rattle.sim.proofs.States.{row-length, length-set-devices, length-tick, device-row, tick-row}
@@ -109,7 +109,7 @@ pub fresh-valid : (p t : Bytes) → IsValidState t (freshState p t)
 unfolding freshState
 fresh-valid p t =
     let s = settled p t (freshDevices t) in
-    let wide : (i : ℕ) → i < rows t → length (freshRow t s i) ≡ 16 = λ i l. length-fresh p t (freshDevices t) s i t in
+    let wide : (i : ℕ) → i < rows t → length (freshRow t s i) ≡ 16 = λ i l. length-fresh t s i in
     state-valid t (freshState p t)
     (record {
       sized = length-joined 16 (freshRow t s) (rows t) wide;

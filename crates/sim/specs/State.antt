@@ -12,8 +12,8 @@ use Rattle.refusals.specs.declared.Checked.{Checked}
 use Rattle.refusals.specs.declared.Checked.the-variants.{Accepted}
 use Rattle.refusals.specs.Check.{refuseUnless, refuseAt}
 use Rattle.electrical.specs.Answer.{settled}
-use Rattle.devices.specs.Row.{deviceOf, goodState}
-use Rattle.devices.specs.Fresh.{freshDevice, freshRow}
+use Rattle.states.specs.Row.{deviceOf, goodState}
+use Rattle.states.specs.Fresh.{freshDevice, freshRow}
 
 -- the sixteen bytes of row i
 abbrev pub sixteen : Bytes → ℕ → Bytes

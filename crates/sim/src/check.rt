@@ -1,8 +1,8 @@
 // The refusals of a call with a state.
 use columns::Found;
-use devices::row::good_state;
 use electrical::device::good_columns;
 use refusals::Checked;
+use states::row::good_state;
 use world::row::rows;
 ghost use mathlib.Core.Path.{_≡_};
 ghost use Prim.Native.Nat.{_*_, _≤_};

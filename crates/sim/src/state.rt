@@ -1,16 +1,16 @@
 // Loops over the rows of a state. Each row's sixteen bytes are lent by themselves.
 use columns::byte_at;
 use devices::device_step;
-use devices::fresh::fresh_device;
-use devices::fresh::fresh_step;
 use devices::lamp_step;
+use states::fresh::fresh_device;
+use states::fresh::fresh_step;
 use world::row::rows;
 ghost use mathlib.Core.Path.{_≡_};
 ghost use Prim.Native.Nat.{_*_};
 ghost use lib.ListN.{length};
 ghost use Rattle.columns.specs.Column.{joined};
 ghost use Rattle.world.specs.Rows.{rows};
-ghost use Rattle.devices.specs.Fresh.{numbersOf, powersOf, freshRow};
+ghost use Rattle.states.specs.Fresh.{numbersOf, powersOf, freshRow};
 ghost use Rattle.sim.specs.State.{devicesOf, freshDevices};
 ghost use Rattle.sim.specs.Tick.{withDevices, withLamps};
 

@@ -1,8 +1,8 @@
 // One round, from the last signals alone, over the columns that no round changes.
 use blocks::kind;
 use columns::byte_at;
+use columns::larger;
 use columns::same;
-use gather::larger;
 use world::row::kind_of;
 use world::signal::Signal;
 ghost use mathlib.Core.Path.{_≡_};

@@ -22,11 +22,11 @@ enum-told c = search needs
 
 returns : tie.Need-returns
 unfolding isLocked
-returns c = λ p. rw (sym (c .before .before .before .before .before .sides-of .ensures) ∙ c .before .before .before .sides .given .1) (cc (c .before .locks-from .ensures p, c .locks-from2 .ensures p))
+returns c = rw (sym (c .before .before .before .before .before .sides-of .ensures) ∙ c .before .before .before .sides .given .1) (cc (c .before .locks-from .ensures, c .locks-from2 .ensures))
 
 returns-2 : tie.Need-returns-2
 unfolding isLocked
-returns-2 c = λ p. rw (sym (c .before .before .sides-of .ensures) ∙ c .enum-told .given .1)
+returns-2 c = rw (sym (c .before .before .sides-of .ensures) ∙ c .enum-told .given .1)
 
 pub is-locked-spec : {M : Type 1} → statement M
 is-locked-spec =

@@ -16,7 +16,7 @@ enum-told c = search needs
 
 returns : tie.Need-returns
 unfolding locksFrom
-returns c = λ p. rw (sym (c .before .before .find .ensures) ∙ c .enum-told .given .1)
+returns c = rw (sym (c .before .before .find .ensures) ∙ c .enum-told .given .1)
 
 outputs-to-requires : tie.Need-outputs-to-requires
 outputs-to-requires c κs = search needs
@@ -26,7 +26,7 @@ byte-at-requires c κs = search needs
 
 returns-2 : tie.Need-returns-2
 unfolding locksFrom
-returns-2 c = λ p. rw (sym (c .before .before .before .before .before .find .ensures) ∙ c .before .before .before .j .given .1) (cc (c .before .outputs-to .ensures p))
+returns-2 c = rw (sym (c .before .before .before .before .before .find .ensures) ∙ c .before .before .before .j .given .1) (cc (c .before .outputs-to .ensures))
 
 pub locks-from-spec : {M : Type 1} → statement M
 locks-from-spec =

@@ -1,7 +1,7 @@
 -- `devices::repeater::repeater_step` meets its contract. Assumes nothing.
 use mathlib.Core.Path.{sym, _∙_}
 use Rattle.devices.specs.Step.{repeaterRow}
-use Rattle.devices.proofs.Powers.{delay-range}
+use Rattle.states.proofs.Powers.{delay-range}
 use borrow.Author.Needs.{needs}
 use Rattle.devices.proofs.repeater.repeater_step.Statement.{statement}
 use Rattle.devices.proofs.repeater.repeater_step.Tie as tie
@@ -11,7 +11,7 @@ is-locked-requires c κs = search needs
 
 returns : tie.Need-returns
 unfolding repeaterRow
-returns c = rw (sym (c .before .is-locked .ensures (c .before .before .before .before .before .before .before .before .before .args .profile .now)) ∙ c .if1 .taken)
+returns c = rw (sym (c .before .is-locked .ensures) ∙ c .if1 .taken)
 
 is-requested-requires : tie.Need-is-requested-requires
 is-requested-requires c κs = search needs
@@ -36,7 +36,7 @@ same-length c = search needs
 
 returns-2 : tie.Need-returns-2
 unfolding repeaterRow
-returns-2 c = rw (sym (c .before .before .before .before .before .is-locked .ensures (c .before .before .before .before .before .before .before .before .before .before .before .before .before .args .profile .now)) ∙ c .before .before .before .before .if1 .left) (cc)
+returns-2 c = rw (sym (c .before .before .before .before .before .is-locked .ensures) ∙ c .before .before .before .before .if1 .left) (cc)
 
 pub repeater-step-spec : {M : Type 1} → statement M
 repeater-step-spec =

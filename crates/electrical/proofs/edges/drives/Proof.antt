@@ -26,12 +26,12 @@ touches-requires c κs = search needs
 returns-2 : tie.Need-returns-2
 unfolding drives
 returns-2 c =
-    rw (eq-eqb _ 3 (sym (c .before .before .before .before .before .before .kind-of .ensures) ∙ c .before .before .before .before .before .if1 .left), ← c .before .before .before .before .feeds .ensures _, ← c .before .before .before .redstone-traits .ensures, ← and-assoc, c .before .if2 .taken) (c .touches .ensures)
+    rw (eq-eqb _ 3 (sym (c .before .before .before .before .before .before .kind-of .ensures) ∙ c .before .before .before .before .before .if1 .left), ← c .before .before .before .before .feeds .ensures, ← c .before .before .before .redstone-traits .ensures, ← and-assoc, c .before .if2 .taken) (c .touches .ensures)
 
 returns-3 : tie.Need-returns-3
 unfolding drives
 returns-3 c =
-    rw (eq-eqb _ 3 (sym (c .before .before .before .before .before .kind-of .ensures) ∙ c .before .before .before .before .if1 .left), ← c .before .before .before .feeds .ensures _, ← c .before .before .redstone-traits .ensures, ← and-assoc, c .if2 .left)
+    rw (eq-eqb _ 3 (sym (c .before .before .before .before .before .kind-of .ensures) ∙ c .before .before .before .before .if1 .left), ← c .before .before .before .feeds .ensures, ← c .before .before .redstone-traits .ensures, ← and-assoc, c .if2 .left)
 
 pub drives-spec : {M : Type 1} → statement M
 drives-spec =

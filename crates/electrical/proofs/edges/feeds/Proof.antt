@@ -15,7 +15,7 @@ outputs-to-requires c κs = search needs
 
 returns : tie.Need-returns
 unfolding feeds
-returns c = λ p. rw (← c .before .before .kind-of .ensures, ← c .before .is-source .ensures, ← c .outputs-to .ensures p)
+returns c = rw (← c .before .before .kind-of .ensures, ← c .before .is-source .ensures, ← c .outputs-to .ensures)
 
 pub feeds-spec : {M : Type 1} → statement M
 feeds-spec = tie.close (tie.spec kind-of-requires is-source-requires outputs-to-requires returns)

@@ -20,11 +20,11 @@ is-adjacent-requires c κs = search needs
 
 returns : tie.Need-returns
 unfolding isCharged
-returns c = λ p. rw (eq-eqb _ 11 (sym (c .before .before .before .before .kind-of .ensures) ∙ c .before .before .before .if1 .taken), ← c .before .before .pos-of .ensures, ← c .before .pos-of2 .ensures) (c .is-adjacent .ensures)
+returns c = rw (eq-eqb _ 11 (sym (c .before .before .before .before .kind-of .ensures) ∙ c .before .before .before .if1 .taken), ← c .before .before .pos-of .ensures, ← c .before .pos-of2 .ensures) (c .is-adjacent .ensures)
 
 returns-2 : tie.Need-returns-2
 unfolding isCharged
-returns-2 c = λ p. rw (← c .before .kind-of .ensures, ne-eqb _ 11 (c .if1 .left))
+returns-2 c = rw (← c .before .kind-of .ensures, ne-eqb _ 11 (c .if1 .left))
 
 pub is-charged-spec : {M : Type 1} → statement M
 is-charged-spec =

@@ -23,11 +23,11 @@ is-at-requires c κs = search needs
 returns : tie.Need-returns
 unfolding isHeldBy
 returns c =
-    λ p. rw (← c .before .before .before .before .before .kind-of .ensures, sym (c .before .before .before .before .is-switch .ensures) ∙ c .before .before .before .if1 .taken, ← c .before .before .support-pos .ensures, ← c .before .pos-of .ensures) (c .is-at .ensures)
+    rw (← c .before .before .before .before .before .kind-of .ensures, sym (c .before .before .before .before .is-switch .ensures) ∙ c .before .before .before .if1 .taken, ← c .before .before .support-pos .ensures, ← c .before .pos-of .ensures) (c .is-at .ensures)
 
 returns-2 : tie.Need-returns-2
 unfolding isHeldBy
-returns-2 c = λ p. rw (← c .before .before .kind-of .ensures, sym (c .before .is-switch .ensures) ∙ c .if1 .left)
+returns-2 c = rw (← c .before .before .kind-of .ensures, sym (c .before .is-switch .ensures) ∙ c .if1 .left)
 
 pub is-held-by-spec : {M : Type 1} → statement M
 is-held-by-spec =

@@ -21,11 +21,11 @@ touches-requires c κs = search needs
 
 returns-2 : tie.Need-returns-2
 unfolding lights
-returns-2 c = rw (eq-eqb _ 3 (sym (c .before .before .before .before .kind-of .ensures) ∙ c .before .before .before .if1 .left), ← c .before .before .feeds .ensures _, c .before .if2 .taken) (c .touches .ensures)
+returns-2 c = rw (eq-eqb _ 3 (sym (c .before .before .before .before .kind-of .ensures) ∙ c .before .before .before .if1 .left), ← c .before .before .feeds .ensures, c .before .if2 .taken) (c .touches .ensures)
 
 returns-3 : tie.Need-returns-3
 unfolding lights
-returns-3 c = rw (eq-eqb _ 3 (sym (c .before .before .before .kind-of .ensures) ∙ c .before .before .if1 .left), ← c .before .feeds .ensures _, c .if2 .left)
+returns-3 c = rw (eq-eqb _ 3 (sym (c .before .before .before .kind-of .ensures) ∙ c .before .before .if1 .left), ← c .before .feeds .ensures, c .if2 .left)
 
 pub lights-spec : {M : Type 1} → statement M
 lights-spec =

@@ -23,11 +23,11 @@ is-at-requires c κs = search needs
 returns : tie.Need-returns
 unfolding outputsTo
 returns c =
-    λ p. rw (← c .before .before .before .before .before .kind-of .ensures, sym (c .before .before .before .before .is-diode .ensures) ∙ c .before .before .before .if1 .taken, ← c .before .before .output-of .ensures, ← c .before .pos-of .ensures) (c .is-at .ensures)
+    rw (← c .before .before .before .before .before .kind-of .ensures, sym (c .before .before .before .before .is-diode .ensures) ∙ c .before .before .before .if1 .taken, ← c .before .before .output-of .ensures, ← c .before .pos-of .ensures) (c .is-at .ensures)
 
 returns-2 : tie.Need-returns-2
 unfolding outputsTo
-returns-2 c = λ p. rw (← c .before .before .kind-of .ensures, sym (c .before .is-diode .ensures) ∙ c .if1 .left)
+returns-2 c = rw (← c .before .before .kind-of .ensures, sym (c .before .is-diode .ensures) ∙ c .if1 .left)
 
 pub outputs-to-spec : {M : Type 1} → statement M
 outputs-to-spec =

@@ -20,15 +20,11 @@ redstone-traits-requires c κs = search needs
 
 returns : tie.Need-returns
 unfolding strongly
-returns c =
-    let p = c .before .before .before .before .before .before .before .args .profile .now in
-    rw (← c .before .before .before .before .is-held-by .ensures p, ← c .before .before .before .outputs-to .ensures p, ← c .before .before .is-charged .ensures p, c .before .if1 .taken, and-true) (ap (λ r. r .strong) (c .redstone-traits .ensures))
+returns c = rw (← c .before .before .before .before .is-held-by .ensures, ← c .before .before .before .outputs-to .ensures, ← c .before .before .is-charged .ensures, c .before .if1 .taken, and-true) (ap (λ r. r .strong) (c .redstone-traits .ensures))
 
 returns-2 : tie.Need-returns-2
 unfolding strongly
-returns-2 c =
-    let p = c .before .before .before .before .before .before .args .profile .now in
-    rw (← c .before .before .before .is-held-by .ensures p, ← c .before .before .outputs-to .ensures p, ← c .before .is-charged .ensures p, c .if1 .left, and-false)
+returns-2 c = rw (← c .before .before .before .is-held-by .ensures, ← c .before .before .outputs-to .ensures, ← c .before .is-charged .ensures, c .if1 .left, and-false)
 
 pub strongly-spec : {M : Type 1} → statement M
 strongly-spec =

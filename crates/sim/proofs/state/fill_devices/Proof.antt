@@ -5,7 +5,7 @@ use native.Mathlib.Omega.{arith}
 use Rattle.columns.specs.Column.{Bytes}
 use Rattle.columns.proofs.Columns.{Filled, filled-none, filled-more, filled-all}
 use Rattle.world.specs.Rows.{rows}
-use Rattle.devices.specs.Row.{deviceOf}
+use Rattle.states.specs.Row.{deviceOf}
 use Rattle.sim.specs.State.{sixteen, devicesOf}
 use Rattle.sim.proofs.Turns.{device-at}
 use borrow.Author.Needs.{needs}

@@ -3,7 +3,7 @@ use mathlib.Core.Path.{_≡_, sym, ap, _∙_}
 use Prim.Native.Nat.{_*_, _-_}
 use native.Mathlib.Omega.{arith}
 use Rattle.world.specs.Rows.{rows}
-use Rattle.devices.specs.Fresh.{powersOf, freshRow}
+use Rattle.states.specs.Fresh.{powersOf, freshRow}
 use Rattle.sim.proofs.Turns.{Turns, turns-none, turns-room, turns-more, turns-all}
 use borrow.Author.Needs.{needs}
 use Rattle.sim.proofs.state.fill_fresh.Statement.{statement}

@@ -4,7 +4,7 @@ use Prim.Native.Nat.{_-_, _≤_}
 use native.Mathlib.Omega.{arith}
 use Rattle.columns.proofs.Columns.{Filled, filled-none, filled-more, filled-all}
 use Rattle.world.specs.Rows.{rows}
-use Rattle.devices.specs.Fresh.{freshDevice}
+use Rattle.states.specs.Fresh.{freshDevice}
 use Rattle.sim.specs.State.{freshDevices}
 use borrow.Author.Needs.{needs}
 use Rattle.sim.proofs.state.fill_fresh_devices.Statement.{statement}

@@ -4,7 +4,7 @@ use Prim.Native.Nat.{ℕ, _*_, _-_}
 use native.Mathlib.Omega.{arith}
 use Rattle.columns.specs.Column.{Bytes, Column}
 use Rattle.world.specs.Rows.{rows}
-use Rattle.devices.specs.Fresh.{numbersOf}
+use Rattle.states.specs.Fresh.{numbersOf}
 use Rattle.devices.specs.Step.{deviceRow}
 use Rattle.sim.specs.State.{sixteen}
 use Rattle.sim.specs.Tick.{withDevices}

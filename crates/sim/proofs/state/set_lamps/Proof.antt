@@ -4,7 +4,7 @@ use Prim.Native.Nat.{ℕ, _*_, _-_}
 use native.Mathlib.Omega.{arith}
 use Rattle.columns.specs.Column.{Bytes, Column}
 use Rattle.world.specs.Rows.{rows}
-use Rattle.devices.specs.Fresh.{powersOf}
+use Rattle.states.specs.Fresh.{powersOf}
 use Rattle.devices.specs.Step.{lampRow}
 use Rattle.sim.specs.State.{sixteen}
 use Rattle.sim.specs.Tick.{withLamps}

@@ -1,0 +1,45 @@
+-- `states::row::good_lamp` meets its contract. Assumes nothing.
+use borrow.Author.Tests.{eq-eqb, ne-eqb}
+use Rattle.states.specs.Row.{goodLamp}
+use borrow.Author.Needs.{needs}
+use Rattle.states.proofs.row.good_lamp.Statement.{statement}
+use Rattle.states.proofs.row.good_lamp.Tie as tie
+
+byte-at-requires : tie.Need-byte-at-requires
+byte-at-requires c κs = search needs
+
+byte-at-requires-2 : tie.Need-byte-at-requires-2
+byte-at-requires-2 c κs = search needs
+
+kind-of-requires : tie.Need-kind-of-requires
+kind-of-requires c κs = search needs
+
+wide-requires : tie.Need-wide-requires
+wide-requires c κs = search needs
+
+wide-requires-2 : tie.Need-wide-requires-2
+wide-requires-2 c κs = search needs
+
+mul-result : tie.Need-mul-result
+mul-result c = search needs
+
+returns : tie.Need-returns
+unfolding goodLamp
+returns c = rw (← c .before .before .before .kind-of .ensures, eq-eqb _ 10 (c .before .before .if1 .taken)) (cc)
+
+returns-2 : tie.Need-returns-2
+unfolding goodLamp
+returns-2 c = rw (← c .before .kind-of .ensures, ne-eqb _ 10 (c .if1 .left)) (cc)
+
+pub good-lamp-spec : {M : Type 1} → statement M
+good-lamp-spec =
+    tie.close
+    (tie.spec
+    byte-at-requires
+    byte-at-requires-2
+    kind-of-requires
+    wide-requires
+    wide-requires-2
+    mul-result
+    returns
+    returns-2)

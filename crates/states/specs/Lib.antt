@@ -1,0 +1,3 @@
+-- The state of a row, and the fresh one.
+pub mod Row
+pub mod Fresh
