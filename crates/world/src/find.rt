@@ -4,7 +4,17 @@ use columns::Found;
 use places::Place;
 use places::Pos;
 ghost use mathlib.Core.Path.{_≡_};
-ghost use Rattle.world.specs.Find.{find, findAt, kindAt};
+ghost use Rattle.world.specs.Find.{standsAt, find, findAt, kindAt};
+
+// Whether a row stands at a position. Most rows of a search differ in x, so that y and z are read of few.
+fn stands_at(table: &[u8], row: usize, q: Pos) -> bool
+    ensures { λ r. ⌜ r ≡ standsAt (now (table .entry)) q row ⌝ }
+{
+    if row::x_of(table, row) == q.x {
+        return row::pos_of(table, row).same(q);
+    }
+    false
+}
 
 // The row that stands at a position: the first, where the rows are out of order.
 pub fn find(table: &[u8], q: Pos) -> Found
@@ -13,7 +23,7 @@ pub fn find(table: &[u8], q: Pos) -> Found
     let n = row::rows(table);
     let mut i = 0;
     while i < n {
-        if row::pos_of(table, i).same(q) {
+        if stands_at(table, i, q) {
             return Found::At(i);
         }
         i += 1;

@@ -70,6 +70,13 @@ fn signed_byte(n: u8) -> i32
     (n as i32) - 256
 }
 
+// The first coordinate of a row's position.
+pub fn x_of(table: &[u8], row: usize) -> i32
+    ensures { λ r. ⌜ r ≡ signed32 (wordOf (now (table .entry)) row 0) ⌝ }
+{
+    signed(word_of(table, row, 0))
+}
+
 // The position of a row.
 pub fn pos_of(table: &[u8], row: usize) -> Pos
     ensures { λ r. ⌜ r ≡ posOf (now (table .entry)) row ⌝ }

@@ -25,17 +25,13 @@ loop-holds : tie.Need-loop-holds Inv-loop μ-loop
 unfolding find
 loop-holds c = (omega arith, rw (sub-zero, c .rows .ensures))
 
-pos-of-requires : tie.Need-pos-of-requires Inv-loop μ-loop
-pos-of-requires c κs = search needs
-
-same-requires : tie.Need-same-requires Inv-loop μ-loop
-same-requires c κs = search needs
+stands-at-requires : tie.Need-stands-at-requires Inv-loop μ-loop
+stands-at-requires c κs = search needs
 
 returns : tie.Need-returns Inv-loop μ-loop
 returns c =
-    let l = c .before .before .before .before in
-    let e : standsAt (l .before .before .before .args .table .now) (l .before .before .before .args .q) (l .loop .i) ≡ true = cc in
-    sym (l .loop .inv .1 ∙ scan-hit _ _ _ (c .before .before .before .loop-test .taken) e)
+    let l = c .before .before .before in
+    sym (l .loop .inv .1 ∙ scan-hit _ _ _ (c .before .before .loop-test .taken) (sym (c .before .stands-at .ensures) ∙ c .if1 .taken))
 
 add-i : tie.Need-add-i Inv-loop μ-loop
 add-i c = omega arith
@@ -45,9 +41,8 @@ loop-less c = omega arith
 
 loop-again : tie.Need-loop-again Inv-loop μ-loop
 loop-again c =
-    let l = c .before .before .before .before in
-    let e : standsAt (l .before .before .before .args .table .now) (l .before .before .before .args .q) (l .loop .i) ≡ false = cc in
-    (omega arith, l .loop .inv .1 ∙ scan-miss _ _ _ (c .before .before .before .loop-test .taken) e)
+    let l = c .before .before .before in
+    (omega arith, l .loop .inv .1 ∙ scan-miss _ _ _ (c .before .before .loop-test .taken) (sym (c .before .stands-at .ensures) ∙ c .if1 .left))
 
 returns-2 : tie.Need-returns-2 Inv-loop μ-loop
 returns-2 c = sym (c .before .loop .inv .1 ∙ scan-over _ _ _ (omega arith))
@@ -60,8 +55,7 @@ find-spec =
     μ-loop
     rows-requires
     loop-holds
-    pos-of-requires
-    same-requires
+    stands-at-requires
     returns
     add-i
     loop-less
