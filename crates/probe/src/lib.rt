@@ -28,14 +28,14 @@ pub extern "C" fn probe_check(profile: &[u8], table: &[u8]) -> u32
 pub extern "C" fn probe_find(table: &[u8], x: i32, y: i32, z: i32) -> u64
     ensures { λ r. ⌜ r ≡ rowNumber (find (now (table .entry)) (cell x y z)) ⌝ }
 {
-    numbers::row_number(world::find::find(table, Pos::new(x, y, z)))
+    numbers::row_number(world::reader::get(table, Pos::new(x, y, z)))
 }
 
 #[no_mangle]
 pub extern "C" fn probe_kind_at(table: &[u8], x: i32, y: i32, z: i32) -> u32
     ensures { λ r. ⌜ r ≡ kindAt (now (table .entry)) (cell x y z) ⌝ }
 {
-    world::find::kind_at(table, Pos::new(x, y, z)) as u32
+    world::reader::kind_at(table, Pos::new(x, y, z)) as u32
 }
 
 #[no_mangle]

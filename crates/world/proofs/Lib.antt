@@ -1,1 +1,4 @@
 pub mod Finding
+pub mod LookUps
+pub mod Thin
+pub mod Made
