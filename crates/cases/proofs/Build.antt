@@ -26,9 +26,6 @@ facing f r = set r 13 f
 abbrev pub powered : Bytes → Bytes
 powered r = set r 14 2
 
-abbrev pub unpowered : Bytes → Bytes
-unpowered r = set r 14 1
-
 abbrev pub level : ℕ → Bytes → Bytes
 level n r = set (set r 15 1) 16 n
 

@@ -3,7 +3,7 @@
 use mathlib.Core.Bool.{Bool, true, _&&_}
 use mathlib.Core.List.{List, [], _∷_, _++_}
 use Prim.Native.Nat.{ℕ, zero, suc, _+_, _*_, _-_}
-use lib.ListN.{getD, take, drop}
+use lib.ListN.{getD, take, drop, replicate}
 use lib.Dec.{T}
 use lib.IntN.{pos, negsuc}
 use Rattle.columns.specs.Column.{Bytes, Column, same}
@@ -12,10 +12,8 @@ use Rattle.blocks.specs.Kind.{Solid, RedstoneWire, RedstoneTorch, Repeater, Com
 use Rattle.blocks.specs.Profile.{benchProfile}
 use Rattle.places.specs.Places.{East, cell}
 use Rattle.world.specs.Rows.{rows}
-use Rattle.refusals.specs.Check.{answerOf}
-use Rattle.wire.specs.declared.transfer.DustTransfer.{DustTransfer}
-use Rattle.wire.specs.declared.transfer.DustTransfer.the-variants.{Horizontal, Rise, FallThroughConductor, NoTransfer}
-use Rattle.wire.specs.Transfer.{dustTransfer}
+use Rattle.refusals.specs.Check.{answerOf, written}
+use Rattle.wire.specs.Transfer.{dustTransfer, transferNumber}
 use Rattle.redraw.specs.Redraw.{updateWireShapes}
 use Rattle.electrical.specs.Answer.{roundsOf, settled, checkSettle}
 use Rattle.states.specs.Row.{deviceOf, togglesOf, candidateOf, delayOf, bitsSet}
@@ -39,16 +37,20 @@ passes (c ∷ cs) = same (c .given) (c .wanted) && passes cs
 
 -- ---- settle, under the bench profile
 
-columns : State → Column
-columns s = s .signal ++ s .weak ++ s .strong
+-- what every byte of the three columns is before a call
+before : ℕ
+before = 99
 
--- a call with the fresh devices: the answer, then the signal, weak and strong columns
+-- a call with the fresh devices: the answer, then the signal, weak and strong columns, which a refused call leaves as they were
 settling : ℕ → Bytes → Column
-unfolding computing columns
+unfolding computing
 settling limit t =
     let n = rows t in
     let d = freshDevices t in
-    answerOf (checkSettle benchProfile t d limit n n n) (roundsOf benchProfile t d) ∷ columns (settled benchProfile t d)
+    let s = settled benchProfile t d in
+    let c = checkSettle benchProfile t d limit n n n in
+    let old = replicate n before in
+    answerOf c (roundsOf benchProfile t d) ∷ written c old (s .signal) ++ written c old (s .weak) ++ written c old (s .strong)
 
 -- test 3's table
 line : Bytes
@@ -71,11 +73,8 @@ longLine = block RedstoneBlock 0 1 0 ++ pairs 15 1
 
 -- what a call answers, and the last signal
 ends : ℕ → Bytes → Column
-unfolding computing
-ends limit t =
-    let n = rows t in
-    let d = freshDevices t in
-    answerOf (checkSettle benchProfile t d limit n n n) (roundsOf benchProfile t d) ∷ getD (settled benchProfile t d .signal) (n - 1) 0 ∷ []
+unfolding settling
+ends limit t = let all = settling limit t in getD all 0 0 ∷ getD all (rows t) 0 ∷ []
 
 -- test 5's table
 comparing : Bytes
@@ -83,15 +82,9 @@ comparing = facing East (Build.level 200 (block Comparator 0 1 0)) ++ block Reds
 
 -- ---- dust_transfer, under the bench profile
 
-transferNumber : DustTransfer → ℕ
-transferNumber NoTransfer = 0
-transferNumber Horizontal = 1
-transferNumber Rise = 2
-transferNumber FallThroughConductor = 3
-
 -- test 6: upward and downward past the middle block of the shape
 rising : ℕ → Column
-unfolding computing transferNumber
+unfolding computing
 rising s =
     let t = block RedstoneWire 0 1 0 ++ shape s (block Solid 1 1 0) ++ block RedstoneWire 1 2 0 in
     let low = cell (pos 0) (pos 1) (pos 0) in
@@ -227,7 +220,7 @@ cases =
     ∷ record { given = text (block Solid 1 0 0 ++ block Solid 0 0 0); wanted = ascii "refusal=5\nplace=1\n" }
     -- 4: "last level 1, rounds 17; limit 16 gives 8"
     ∷ record { given = ends 128 longLine; wanted = 17 ∷ 1 ∷ [] }
-    ∷ record { given = ends 16 longLine; wanted = 524288 ∷ 1 ∷ [] }
+    ∷ record { given = ends 16 longLine; wanted = 524288 ∷ before ∷ [] }
     -- 5: "signals 200 and 15, rounds 2"
     ∷ record { given = settling 128 comparing; wanted = 2 ∷ 200 ∷ 15 ∷ 0 ∷ 0 ∷ 0 ∷ 0 ∷ [] }
     -- 6: with a top slab "Rise upward, none downward. Plain Solid instead: both"

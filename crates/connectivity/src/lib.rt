@@ -56,11 +56,11 @@ fn across(q: Pos, facing: u8) -> Sides
     ensures { λ r. ⌜ r ≡ across q facing ⌝ }
 {
     match facing {
-        1 | 3 => Sides::Both(
+        Facing::NORTH | Facing::SOUTH => Sides::Both(
             q.beside(Facing { code: Facing::EAST }),
             q.beside(Facing { code: Facing::WEST }),
         ),
-        2 | 4 => Sides::Both(
+        Facing::EAST | Facing::WEST => Sides::Both(
             q.beside(Facing {
                 code: Facing::NORTH,
             }),

@@ -6,8 +6,7 @@ use mathlib.Core.Bool.{Bool, true, false, _&&_}
 use Prim.Native.Nat.{ℕ, _+_, _*_, _≤_, _<_, max}
 use native.Mathlib.Omega.{arith}
 use lib.ListN.{length}
-use lib.Dec.{eqb, leb}
-use borrow.Author.Tests.{eq-eqb, le-leb, lt-leb}
+use borrow.Author.Tests.{le-leb, lt-leb}
 use Rattle.columns.specs.Column.{Bytes, Column, row}
 use Rattle.columns.specs.Signal.{maxSignal}
 use Rattle.columns.proofs.Truth.{or-false, and-false-left, and-false-right}
@@ -17,13 +16,20 @@ use Rattle.network.specs.Demand as Network
 use Rattle.blocks.specs.Kind.{isDust}
 use Rattle.world.specs.Rows.{rows, kindOf}
 use Rattle.world.specs.Traits.{traits, conducts}
+use Rattle.refusals.specs.declared.Checked.{Checked}
 use Rattle.refusals.specs.declared.Checked.the-variants.{Accepted, Refused}
-use Rattle.refusals.specs.Check.{IsAccepted}
+use Rattle.refusals.specs.Check.{orElse}
 use Rattle.electrical.specs.Emitted.{IsValid, emitted}
 use Rattle.electrical.specs.Edges.{strongly, through, under, networkOf}
-use Rattle.electrical.specs.Answer.{roundsOf, settled, checkCall, checkSettle, Columns, Settles}
+use Rattle.electrical.specs.Answer.{roundsOf, settled, checkCall, checkSettle}
+use Rattle.electrical.specs.Join.{largerOf, Joined, Called}
 use Rattle.electrical.proofs.Emitted.{emitted-larger, emitted-byte}
-use Rattle.electrical.proofs.Devices.{valid-devices, devices-valid, largerOf, is-larger, larger-devices}
+use Rattle.electrical.proofs.Devices.{valid-devices, devices-valid, is-larger, larger-devices}
+
+-- a call on which no later test falls
+or-accepted : (c : Checked) → orElse c Accepted ≡ c
+or-accepted Accepted = refl
+or-accepted (Refused n i) = refl
 
 -- ---- "the rounds are at most 17 for every valid column of every accepted table"
 
@@ -38,12 +44,11 @@ module _ (p t : Bytes) (d : Column) where
   unfolding roundsOf
   rounds-range = Network.rounds-range (networkOf p t) (emitted t d)
 
-  -- "so settle with a limit from 17 up never calls it unsettled"
-  pub never-unsettled : IsAccepted p t → IsValid t d
-      → (limit : ℕ) → 17 ≤ limit → checkSettle p t d limit (rows t) (rows t) (rows t) ≡ Accepted
-  unfolding checkSettle checkCall
-  never-unsettled input devices limit h =
-      rw (input, devices, eq-eqb (rows t) (rows t) refl, le-leb (roundsOf p t d) limit (omega (arith, rounds-range)))
+  -- "so settle with a limit from 17 up never calls it unsettled": number 8 falls on no call with such a limit, whatever its columns
+  pub never-unsettled : (limit : ℕ) → 17 ≤ limit → (signal weak strong : ℕ) → checkSettle p t d limit signal weak strong ≡ checkCall p t d signal weak strong
+  unfolding checkSettle
+  never-unsettled limit h signal weak strong =
+      rw (le-leb (roundsOf p t d) limit (omega (arith, rounds-range))) (or-accepted (checkCall p t d signal weak strong))
 
   -- ---- "exactly one set of dust levels satisfies the definition, the settled one"
 
@@ -74,11 +79,6 @@ module _ (p t : Bytes) {a b c : Column} (j : Rows Larger a b c) where
   unfolding roundsOf
   rounds-join = Network.rounds-larger (networkOf p t) (emitted-larger t j)
 
-pub record Joined (p t : Bytes) (a b c : Column) : Type 0 where
-  pub valid : IsValid t c
-  pub numbers : States Larger (settled p t a) (settled p t b) (settled p t c)
-  pub rounds : roundsOf p t c ≤ max (roundsOf p t a) (roundsOf p t b)
-
 -- of two valid columns of a table the joined one is valid, and settles so
 pub joined : (p t : Bytes) (a b : Column) → IsValid t a → IsValid t b → Joined p t a b (largerOf a b)
 joined p t a b ha hb =
@@ -91,11 +91,6 @@ joined p t a b ha hb =
     }
 
 -- ---- "settle writes the definition's numbers and answers its rounds whatever its limit"
-
--- a call of settle that refusals 1 to 7 pass: what it answers and leaves in the three columns
-pub record Called (p t : Bytes) (d : Column) (limit : ℕ) (signal weak strong signal′ weak′ strong′ : Column) (r : ℕ) : Type 0 where
-  pub passed : checkCall p t d (length signal) (length weak) (length strong) ≡ Accepted
-  pub whole : Settles p t d limit signal weak strong signal′ weak′ strong′ r
 
 module _ {p t : Bytes} {d : Column} {limit : ℕ} {signal weak strong signal′ weak′ strong′ : Column} {r : ℕ}
     (c : Called p t d limit signal weak strong signal′ weak′ strong′ r) where
@@ -119,6 +114,11 @@ module _ {p t : Bytes} {d : Column} {limit : ℕ} {signal weak strong signal′ 
   unsettled h =
       let s = c .whole in
       (rw (refuses h) at (s .answer), rw (refuses h) at (s .columns .signals), rw (refuses h) at (s .columns .weaks), rw (refuses h) at (s .columns .strongs))
+
+  -- so it is with every limit from 17 up
+  pub settles-from-17 : 17 ≤ limit
+      → (r ≡ roundsOf p t d) × (signal′ ≡ settled p t d .signal) × (weak′ ≡ settled p t d .weak) × (strong′ ≡ settled p t d .strong)
+  settles-from-17 h = settles (omega (arith, rounds-range p t d))
 
 -- three calls, of two columns and of their join, each with a limit of its own that is enough: the third leaves at each row the
 -- larger of what the others leave, and answers at most the larger answer, and at most 17

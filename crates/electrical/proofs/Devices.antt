@@ -19,6 +19,7 @@ use Rattle.world.specs.Rows.{rows, kindOf}
 use Rattle.refusals.specs.declared.Checked.the-variants.{Accepted}
 use Rattle.refusals.proofs.Passed.{passed-unless, passed-at}
 use Rattle.electrical.specs.Emitted.{goodDevice, isBadDevice, checkDevices}
+use Rattle.electrical.specs.Join.{largerOf}
 
 pub record Devices (t : Bytes) (d : Column) : Type 0 where
   pub sized : length d ≡ rows t
@@ -37,10 +38,6 @@ devices-valid t d v =
     rw (eq-eqb (length d) (rows t) (v .sized), none-first (isBadDevice t d) (rows t) 0 (λ i _ l. rw (v .good i (omega arith))))
 
 -- ---- the row-wise larger of two
-
--- "Joining two device columns by the larger number at each row"
-unfoldable pub largerOf : Column → Column → Column
-largerOf a b = tabulate (length a) (λ i. max (row a i) (row b i))
 
 one-of : (x y : ℕ) → (max x y ≡ x) ⊎ (max x y ≡ y)
 one-of x y = by-cases (decLe x y) (λ h. inr (max-eq-right h)) (λ n. let h : y ≤ x = omega arith in inl (max-eq-left h))

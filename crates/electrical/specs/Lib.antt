@@ -1,3 +1,4 @@
 pub mod Emitted
 pub mod Edges
 pub mod Answer
+pub mod Join

@@ -15,8 +15,6 @@ use Rattle.places.specs.declared.Place.the-variants.{There, Nowhere}
 use Rattle.connectivity.specs.declared.Sides.{Sides}
 use Rattle.connectivity.specs.declared.Sides.the-variants.{Both, Neither}
 use Rattle.connectivity.specs.Ports.{repeaterInputPos, repeaterOutputPos, comparatorInputPos, comparatorOutputPos, deviceSidePositions}
-use Rattle.wire.specs.declared.transfer.DustTransfer.{DustTransfer}
-use Rattle.wire.specs.declared.transfer.DustTransfer.the-variants.{Horizontal, Rise, FallThroughConductor, NoTransfer}
 use Rattle.world.specs.declared.traits.BlockRedstoneTraits.{BlockRedstoneTraits}
 
 -- the row found, or the largest number of 64 bits
@@ -70,9 +68,3 @@ portOf t q which =
     (cond (eqb which 1) (repeaterOutputPos t q)
     (cond (eqb which 2) (comparatorInputPos t q)
     (cond (eqb which 3) (comparatorOutputPos t q) (sideOf (deviceSidePositions t q) (eqb which 4)))))
-
-abbrev pub transferNumber : DustTransfer → ℕ
-transferNumber NoTransfer = 0
-transferNumber Horizontal = 1
-transferNumber Rise = 2
-transferNumber FallThroughConductor = 3

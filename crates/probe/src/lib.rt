@@ -12,9 +12,9 @@ ghost use Rattle.world.specs.Names.{shapeOfName};
 ghost use Rattle.refusals.specs.Check.{checkInput, answerOf};
 ghost use Rattle.supports.specs.Supports.{Listed};
 ghost use Rattle.wire.specs.Arms.{componentConnects, inferWireConnection, resolvedWireConnection};
-ghost use Rattle.wire.specs.Transfer.{dustTransfer};
+ghost use Rattle.wire.specs.Transfer.{dustTransfer, transferNumber};
 ghost use Rattle.redraw.specs.Redraw.{Redraws};
-ghost use Rattle.probe.specs.Numbers.{rowNumber, kindProperties, traitsNumber, coordinate, placeCoordinate, knownFacing, isThere, portOf, transferNumber, bit};
+ghost use Rattle.probe.specs.Numbers.{rowNumber, kindProperties, traitsNumber, coordinate, placeCoordinate, knownFacing, isThere, portOf, bit};
 
 // 0, or the refusal that falls on a profile and a table.
 #[no_mangle]

@@ -10,7 +10,8 @@ use world::traits::BlockRedstoneTraits;
 ghost use mathlib.Core.Path.{_≡_};
 ghost use Prim.Native.Nat.{_≤_};
 ghost use lib.IntN.{ℤ};
-ghost use Rattle.probe.specs.Numbers.{rowNumber, bit, propertiesNumber, traitsNumber, coordinate, placeCoordinate, knownFacing, isThere, sideOf, portOf, transferNumber};
+ghost use Rattle.wire.specs.Transfer.{transferNumber};
+ghost use Rattle.probe.specs.Numbers.{rowNumber, bit, propertiesNumber, traitsNumber, coordinate, placeCoordinate, knownFacing, isThere, sideOf, portOf};
 
 pub fn row_number(found: Found) -> u64
     ensures { λ r. ⌜ r ≡ rowNumber found ⌝ }

@@ -1,6 +1,6 @@
 -- Laws of a run of the program: which refusal falls on it. The fresh devices are always valid, and limit 128 is never too low.
 -- Assumes nothing.
-use mathlib.Core.Path.{_≡_}
+use mathlib.Core.Path.{_≡_, refl, _∙_}
 use Prim.Native.Nat.{ℕ, _≤_, _<_}
 use native.Mathlib.Omega.{arith}
 use lib.ListN.{length, take, replicate, length-take, length-replicate}
@@ -23,9 +23,13 @@ use Rattle.report.specs.Put.{Lent}
 -- ---- what falls on a run
 
 module _ (p t : Bytes) where
+  call-accepted : checkInput p t ≡ Accepted → checkCall p t (freshDevices t) (rows t) (rows t) (rows t) ≡ Accepted
+  unfolding checkCall
+  call-accepted h = rw (h, fresh-devices-valid t, eq-eqb (rows t) (rows t) refl)
+
   pub run-accepted : checkInput p t ≡ Accepted → checkRun p t ≡ Accepted
   unfolding checkRun
-  run-accepted h = never-unsettled p t (freshDevices t) h (fresh-devices-valid t) 128 (omega arith)
+  run-accepted h = never-unsettled p t (freshDevices t) 128 (omega arith) (rows t) (rows t) (rows t) ∙ call-accepted h
 
   pub run-refused : {n i : ℕ} → checkInput p t ≡ Refused n i → checkRun p t ≡ Refused n i
   unfolding checkRun checkSettle checkCall

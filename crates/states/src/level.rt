@@ -2,11 +2,8 @@
 use columns::byte_at;
 use columns::larger;
 ghost use mathlib.Core.Path.{_≡_};
-ghost use mathlib.Core.Bool.{not};
-ghost use Prim.Native.Nat.{max};
-ghost use lib.Dec.{eqb};
-ghost use Rattle.columns.specs.Column.{row as entry};
 ghost use Rattle.states.specs.Row.{number};
+ghost use Rattle.states.specs.Fresh.{powersOf, powerAt, hasPower};
 
 pub fn number(b: bool) -> u8
     ensures { λ r. ⌜ r ≡ number b ⌝ }
@@ -16,13 +13,13 @@ pub fn number(b: bool) -> u8
 
 // The larger of weak and strong power: `PoweredBlockState::level`.
 pub fn power_at(weak: &[u8], strong: &[u8], row: usize) -> u8
-    ensures { λ r. ⌜ r ≡ max (entry (now (weak .entry)) row) (entry (now (strong .entry)) row) ⌝ }
+    ensures { λ r. ⌜ r ≡ powerAt (powersOf (now (weak .entry)) (now (strong .entry))) row ⌝ }
 {
     larger(byte_at(weak, row), byte_at(strong, row))
 }
 
 pub fn has_power(weak: &[u8], strong: &[u8], row: usize) -> bool
-    ensures { λ r. ⌜ r ≡ not (eqb (max (entry (now (weak .entry)) row) (entry (now (strong .entry)) row)) 0) ⌝ }
+    ensures { λ r. ⌜ r ≡ hasPower (powersOf (now (weak .entry)) (now (strong .entry))) row ⌝ }
 {
     power_at(weak, strong, row) != 0
 }

@@ -16,7 +16,7 @@ use Rattle.world.specs.Rows.{rows, byteOf, wordOf, posOf, kindOf, facingOf, sto
 use Rattle.world.specs.Find.{find, kindAt}
 use Rattle.world.specs.Traits.{nothing, traits, traitsAt}
 use Rattle.wire.specs.Arms.{connects, componentConnects, joins, rises, drops, inferPast, inferWireConnection, armOf, hasArm}
-use Rattle.wire.specs.Transfer.{isLevel, isRise, isFall, ruleAlong, firstRule, transferOf, isTransfer, transmits}
+use Rattle.wire.specs.Transfer.{fitsHorizontal, fitsRise, fitsFall, ruleAlong, firstRule, transferOf, isTransfer, transmits}
 
 -- the bytes of a row that are read
 abbrev pub Read : ℕ → Type 0
@@ -91,7 +91,7 @@ module _ {t u : Bytes} (a : Alike t u) where
     same-has-arm i f = rw (same-arm i f)
 
     same-along : (j i f : ℕ) → ruleAlong p t j i f ≡ ruleAlong p u j i f
-    unfolding ruleAlong isLevel isRise isFall
+    unfolding ruleAlong fitsHorizontal fitsRise fitsFall
     same-along j i f =
         rw (same-place j, same-place i, same-has-arm j f, same-has-arm i (opposite f), same-arm j f, same-arm i (opposite f), same-traits-at p (beside (posOf u j) f), same-traits-at p (below (posOf u j)))
 

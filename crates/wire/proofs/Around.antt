@@ -17,7 +17,7 @@ use Rattle.places.proofs.Steps.{InRange, sideways, opposite-horizontal, sideway
 use Rattle.world.specs.Rows.{posOf, kindOf}
 use Rattle.wire.specs.declared.transfer.DustTransfer.{DustTransfer}
 use Rattle.wire.specs.declared.transfer.DustTransfer.the-variants.{Horizontal, Rise, FallThroughConductor, NoTransfer}
-use Rattle.wire.specs.Transfer.{isLevel, isRise, isFall, ruleAlong, orRule, firstRule, transferOf, isTransfer, transmits}
+use Rattle.wire.specs.Transfer.{fitsHorizontal, fitsRise, fitsFall, ruleAlong, orRule, firstRule, transferOf, isTransfer, transmits}
 
 -- some facing of the list has a rule that fits
 record Fits (rule : ℕ → DustTransfer) (fs : List ℕ) : Type 0 where
@@ -62,10 +62,10 @@ module _ (p t : Bytes) (j i : ℕ) (r : InRange (posOf t j)) (f : ℕ) (m : List
       (is-around (posOf t i) horizontals (opposite f) (opposite-horizontal (posOf t j) r f m) back)
 
   rule-around : isTransfer (ruleAlong p t j i f) ≡ true → List·Memᴰ (posOf t j) (around (posOf t i))
-  unfolding ruleAlong isLevel isRise isFall beside
-  rule-around = go (isLevel p t j i f) refl (isRise p t j i f) refl (isFall p t j i f) refl
+  unfolding ruleAlong fitsHorizontal fitsRise fitsFall beside
+  rule-around = go (fitsHorizontal p t j i f) refl (fitsRise p t j i f) refl (fitsFall p t j i f) refl
     where
-      go : (a : Bool) → isLevel p t j i f ≡ a → (b : Bool) → isRise p t j i f ≡ b → (c : Bool) → isFall p t j i f ≡ c
+      go : (a : Bool) → fitsHorizontal p t j i f ≡ a → (b : Bool) → fitsRise p t j i f ≡ b → (c : Bool) → fitsFall p t j i f ≡ c
           → isTransfer (cond a Horizontal (cond b Rise (cond c FallThroughConductor NoTransfer))) ≡ true → List·Memᴰ (posOf t j) (around (posOf t i))
       go true x b y c z h = from-sink level level (omega arith) (samePos-true _ _ (and-true (samePos (beside (posOf t j) f) (posOf t i)) _ x .0))
       go false x true y c z h =

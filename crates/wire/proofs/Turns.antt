@@ -10,7 +10,7 @@ use Rattle.columns.specs.Column.{Bytes}
 use Rattle.places.specs.Places.{horizontals}
 use Rattle.wire.specs.declared.transfer.DustTransfer.{DustTransfer}
 use Rattle.wire.specs.declared.transfer.DustTransfer.the-variants.{Horizontal, Rise, FallThroughConductor, NoTransfer}
-use Rattle.wire.specs.Transfer.{isLevel, isRise, isFall, fits, ruleAlong, ruleOf, orRule, firstRule}
+use Rattle.wire.specs.Transfer.{fitsHorizontal, fitsRise, fitsFall, fits, ruleAlong, ruleOf, orRule, firstRule}
 
 -- the facings come in the order of their numbers
 next-facing : (f : ℕ) → 1 ≤ f → f ≤ 4 → drop (f - 1) horizontals ≡ f ∷ drop (f + 1 - 1) horizontals
@@ -34,7 +34,7 @@ module _ (p t : Bytes) (j i : ℕ) where
 
     along : (next : DustTransfer) → orRule (ruleAlong p t j i f) next ≡ fromStep 3 0 next
     unfolding ruleAlong fits fromStep
-    along next = go (isLevel p t j i f) (isRise p t j i f) (isFall p t j i f)
+    along next = go (fitsHorizontal p t j i f) (fitsRise p t j i f) (fitsFall p t j i f)
       where
         go : (a b c : Bool) → orRule (cond a Horizontal (cond b Rise (cond c FallThroughConductor NoTransfer))) next ≡ cond a Horizontal (cond b Rise (cond c FallThroughConductor next))
         go true b c = refl

@@ -20,26 +20,26 @@ use Rattle.wire.specs.declared.transfer.DustTransfer.the-variants.{Horiz
 
 module _ (p t : Bytes) (j i f : ℕ) where
   -- "Horizontal, sink beside and both have the arm"
-  unfoldable pub isLevel : Bool
-  isLevel = samePos (beside (posOf t j) f) (posOf t i) && (hasArm p t j f && hasArm p t i (opposite f))
+  unfoldable pub fitsHorizontal : Bool
+  fitsHorizontal = samePos (beside (posOf t j) f) (posOf t i) && (hasArm p t j f && hasArm p t i (opposite f))
 
   -- "Rise, sink above the cell beside, whose rise equals the source's arm"
-  unfoldable pub isRise : Bool
-  isRise = samePos (above (beside (posOf t j) f)) (posOf t i) && risesBy (traitsAt p t (beside (posOf t j) f)) (armOf p t j f)
+  unfoldable pub fitsRise : Bool
+  fitsRise = samePos (above (beside (posOf t j) f)) (posOf t i) && risesBy (traitsAt p t (beside (posOf t j) f)) (armOf p t j f)
 
   -- "FallThroughConductor, sink below the cell beside, the block under the source drives dust and its rise equals the sink's arm back"
-  unfoldable pub isFall : Bool
-  isFall =
+  unfoldable pub fitsFall : Bool
+  fitsFall =
       samePos (below (beside (posOf t j) f)) (posOf t i)
       && (traitsAt p t (below (posOf t j)) .drives && risesBy (traitsAt p t (below (posOf t j))) (armOf p t i (opposite f)))
 
   -- the rules by the height step of the sink: 0 level, 1 up, 2 down
   unfoldable pub fits : ℕ → Bool
-  fits step = cond (eqb step 0) isLevel (cond (eqb step 1) isRise isFall)
+  fits step = cond (eqb step 0) fitsHorizontal (cond (eqb step 1) fitsRise fitsFall)
 
   -- the first rule that fits along f
   unfoldable pub ruleAlong : DustTransfer
-  ruleAlong = cond isLevel Horizontal (cond isRise Rise (cond isFall FallThroughConductor NoTransfer))
+  ruleAlong = cond fitsHorizontal Horizontal (cond fitsRise Rise (cond fitsFall FallThroughConductor NoTransfer))
 
 abbrev pub ruleOf : ℕ → DustTransfer
 ruleOf step = cond (eqb step 0) Horizontal (cond (eqb step 1) Rise FallThroughConductor)
@@ -66,6 +66,13 @@ unfoldable pub dustTransfer : Bytes → Bytes → Pos → Pos → DustTransfer
 dustTransfer p t source sink = onFound (λ j. onFound (transferOf p t j) NoTransfer (find t sink)) NoTransfer (find t source)
 
 -- ---- any rule at all
+
+-- the rule as a number, 0 where there is none
+abbrev pub transferNumber : DustTransfer → ℕ
+transferNumber NoTransfer = 0
+transferNumber Horizontal = 1
+transferNumber Rise = 2
+transferNumber FallThroughConductor = 3
 
 abbrev pub isTransfer : DustTransfer → Bool
 isTransfer Horizontal = true

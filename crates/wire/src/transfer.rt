@@ -11,7 +11,7 @@ use world::row::pos_of;
 use world::traits::traits_at;
 ghost use mathlib.Core.Path.{_≡_};
 ghost use Rattle.places.specs.Places.{horizontals};
-ghost use Rattle.wire.specs.Transfer.{isLevel, isRise, isFall, fits, ruleAlong, ruleOf, firstRule, transferOf, dustTransfer, isTransfer, transmits, dustTransmits};
+ghost use Rattle.wire.specs.Transfer.{fitsHorizontal, fitsRise, fitsFall, fits, ruleAlong, ruleOf, firstRule, transferOf, dustTransfer, isTransfer, transmits, dustTransmits};
 
 // The rule by which power goes from one dust to another, or none: `Option<DustTransfer>`.
 pub enum DustTransfer {
@@ -22,8 +22,8 @@ pub enum DustTransfer {
 }
 
 // Whether the sink, row i, is beside the source, row j, and both have the arm.
-fn is_level(profile: &[u8], table: &[u8], j: usize, i: usize, facing: u8) -> bool
-    ensures { λ r. ⌜ r ≡ isLevel (now (profile .entry)) (now (table .entry)) j i facing ⌝ }
+fn fits_horizontal(profile: &[u8], table: &[u8], j: usize, i: usize, facing: u8) -> bool
+    ensures { λ r. ⌜ r ≡ fitsHorizontal (now (profile .entry)) (now (table .entry)) j i facing ⌝ }
 {
     let side = pos_of(table, j).beside(Facing { code: facing });
     if side.same(pos_of(table, i)) {
@@ -34,8 +34,8 @@ fn is_level(profile: &[u8], table: &[u8], j: usize, i: usize, facing: u8) -> boo
 }
 
 // Whether the sink is above the cell beside, whose rise is the source's arm.
-fn is_rise(profile: &[u8], table: &[u8], j: usize, i: usize, facing: u8) -> bool
-    ensures { λ r. ⌜ r ≡ isRise (now (profile .entry)) (now (table .entry)) j i facing ⌝ }
+fn fits_rise(profile: &[u8], table: &[u8], j: usize, i: usize, facing: u8) -> bool
+    ensures { λ r. ⌜ r ≡ fitsRise (now (profile .entry)) (now (table .entry)) j i facing ⌝ }
 {
     let side = pos_of(table, j).beside(Facing { code: facing });
     if side.above().same(pos_of(table, i)) {
@@ -45,8 +45,8 @@ fn is_rise(profile: &[u8], table: &[u8], j: usize, i: usize, facing: u8) -> bool
 }
 
 // Whether the sink is below the cell beside, and the block under the source drives dust with the sink's arm back for its rise.
-fn is_fall(profile: &[u8], table: &[u8], j: usize, i: usize, facing: u8) -> bool
-    ensures { λ r. ⌜ r ≡ isFall (now (profile .entry)) (now (table .entry)) j i facing ⌝ }
+fn fits_fall(profile: &[u8], table: &[u8], j: usize, i: usize, facing: u8) -> bool
+    ensures { λ r. ⌜ r ≡ fitsFall (now (profile .entry)) (now (table .entry)) j i facing ⌝ }
 {
     let source = pos_of(table, j);
     if source
@@ -65,9 +65,9 @@ fn fits(profile: &[u8], table: &[u8], j: usize, i: usize, facing: u8, step: u8) 
     ensures { λ r. ⌜ r ≡ fits (now (profile .entry)) (now (table .entry)) j i facing step ⌝ }
 {
     match step {
-        0 => is_level(profile, table, j, i, facing),
-        1 => is_rise(profile, table, j, i, facing),
-        _ => is_fall(profile, table, j, i, facing),
+        0 => fits_horizontal(profile, table, j, i, facing),
+        1 => fits_rise(profile, table, j, i, facing),
+        _ => fits_fall(profile, table, j, i, facing),
     }
 }
 

@@ -20,12 +20,12 @@ abbrev pub stairs : Bytes
 stairs = 95 ∷ 115 ∷ 116 ∷ 97 ∷ 105 ∷ 114 ∷ 115 ∷ []
 
 -- minecraft:glass
-abbrev pub clear : Bytes
-clear = 109 ∷ 105 ∷ 110 ∷ 101 ∷ 99 ∷ 114 ∷ 97 ∷ 102 ∷ 116 ∷ 58 ∷ 103 ∷ 108 ∷ 97 ∷ 115 ∷ 115 ∷ []
+abbrev pub plainGlass : Bytes
+plainGlass = 109 ∷ 105 ∷ 110 ∷ 101 ∷ 99 ∷ 114 ∷ 97 ∷ 102 ∷ 116 ∷ 58 ∷ 103 ∷ 108 ∷ 97 ∷ 115 ∷ 115 ∷ []
 
 -- minecraft:tinted_glass
-abbrev pub tinted : Bytes
-tinted =
+abbrev pub tintedGlass : Bytes
+tintedGlass =
     109 ∷ 105 ∷ 110 ∷ 101 ∷ 99 ∷ 114 ∷ 97 ∷ 102 ∷ 116 ∷ 58 ∷ 116 ∷ 105 ∷ 110 ∷ 116 ∷ 101 ∷ 100 ∷ 95 ∷ 103 ∷ 108 ∷ 97 ∷ 115 ∷ 115 ∷ []
 
 -- top
@@ -46,7 +46,7 @@ stairsShape half = cond (same half top) TopStairs BottomStairs
 
 -- "`minecraft:glass` or `minecraft:tinted_glass`"
 abbrev pub isGlass : Bytes → Bool
-isGlass name = same name clear || same name tinted
+isGlass name = same name plainGlass || same name tintedGlass
 
 -- "ending `_slab` first .., then `_stairs` .., then `minecraft:glass` or `minecraft:tinted_glass`; else plain"
 unfoldable pub shapeOfName : Bytes → Bytes → Bytes → ℕ

@@ -82,12 +82,12 @@ fn nothing() -> BlockRedstoneTraits
     }
 }
 
-// The traits of a shape that is not plain: 2 top slab, 5 top stairs, 3 double slab, 6 glass.
+// The traits of a shape that is not plain.
 fn of_shape(shape: u8) -> BlockRedstoneTraits
     ensures { λ r. ⌜ r ≡ ofShape shape ⌝ }
 {
     match shape {
-        2 | 5 => BlockRedstoneTraits {
+        shape::TOP_SLAB | shape::TOP_STAIRS => BlockRedstoneTraits {
             supports: true,
             rise: ARM_SIDE,
             blocks: false,
@@ -95,7 +95,7 @@ fn of_shape(shape: u8) -> BlockRedstoneTraits
             strong: false,
             drives: false,
         },
-        3 => BlockRedstoneTraits {
+        shape::DOUBLE_SLAB => BlockRedstoneTraits {
             supports: true,
             rise: ARM_UP,
             blocks: true,
@@ -103,7 +103,7 @@ fn of_shape(shape: u8) -> BlockRedstoneTraits
             strong: true,
             drives: true,
         },
-        6 => BlockRedstoneTraits {
+        shape::GLASS => BlockRedstoneTraits {
             supports: true,
             rise: ARM_UP,
             blocks: false,

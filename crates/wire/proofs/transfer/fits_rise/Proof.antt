@@ -1,12 +1,12 @@
--- `wire::transfer::is_rise` meets its contract: the sink is where the test says, and then the rise is asked. Assumes nothing.
+-- `wire::transfer::fits_rise` meets its contract: the sink is where the test says, and then the rise is asked. Assumes nothing.
 use mathlib.Core.Path.{_≡_, sym, ap₂, _∙_}
 use borrow.Author.Needs.{needs}
 use Rattle.places.specs.Places.{samePos, beside, above}
 use Rattle.world.specs.Rows.{posOf}
 use Rattle.world.specs.Traits.{risesBy}
-use Rattle.wire.specs.Transfer.{isRise}
-use Rattle.wire.proofs.transfer.is_rise.Statement.{statement}
-use Rattle.wire.proofs.transfer.is_rise.Tie as tie
+use Rattle.wire.specs.Transfer.{fitsRise}
+use Rattle.wire.proofs.transfer.fits_rise.Statement.{statement}
+use Rattle.wire.proofs.transfer.fits_rise.Tie as tie
 
 pos-of-requires : tie.Need-pos-of-requires
 pos-of-requires c κs = search needs
@@ -37,17 +37,17 @@ sink : (c : tie.After-same) → samePos (above (beside (posOf (c .before .before
 sink c = rw (← c .before .before .before .before .pos-of .ensures, ← c .before .before .before .beside .ensures, ← c .before .before .above .ensures, ← c .before .pos-of2 .ensures) (sym (c .same .ensures))
 
 returns : tie.Need-returns
-unfolding isRise
+unfolding fitsRise
 returns c =
     rw (sink (c .before .before .before .before) ∙ c .before .before .before .if1 .taken, ← c .before .before .before .before .before .before .before .before .pos-of .ensures, ← c .before .before .before .before .before .before .before .beside .ensures, c .rises-by .ensures)
     (ap₂ risesBy (c .before .before .traits-at .ensures) (c .before .arm-of .ensures))
 
 returns-2 : tie.Need-returns-2
-unfolding isRise
+unfolding fitsRise
 returns-2 c = rw (sink (c .before) ∙ c .if1 .left)
 
-pub is-rise-spec : {M : Type 1} → statement M
-is-rise-spec =
+pub fits-rise-spec : {M : Type 1} → statement M
+fits-rise-spec =
     tie.close
     (tie.spec
     pos-of-requires

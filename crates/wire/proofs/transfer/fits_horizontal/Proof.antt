@@ -1,12 +1,12 @@
--- `wire::transfer::is_level` meets its contract: the sink is where the test says, and then both arms are asked. Assumes nothing.
+-- `wire::transfer::fits_horizontal` meets its contract: the sink is where the test says, and then both arms are asked. Assumes nothing.
 use mathlib.Core.Path.{_≡_, sym, ap₂, _∙_}
 use mathlib.Core.Bool.{_&&_}
 use borrow.Author.Needs.{needs}
 use Rattle.places.specs.Places.{samePos, beside}
 use Rattle.world.specs.Rows.{posOf}
-use Rattle.wire.specs.Transfer.{isLevel}
-use Rattle.wire.proofs.transfer.is_level.Statement.{statement}
-use Rattle.wire.proofs.transfer.is_level.Tie as tie
+use Rattle.wire.specs.Transfer.{fitsHorizontal}
+use Rattle.wire.proofs.transfer.fits_horizontal.Statement.{statement}
+use Rattle.wire.proofs.transfer.fits_horizontal.Tie as tie
 
 pos-of-requires : tie.Need-pos-of-requires
 pos-of-requires c κs = search needs
@@ -34,16 +34,16 @@ sink : (c : tie.After-same) → samePos (beside (posOf (c .before .before .befor
 sink c = rw (← c .before .before .before .pos-of .ensures, ← c .before .before .beside .ensures, ← c .before .pos-of2 .ensures) (sym (c .same .ensures))
 
 returns : tie.Need-returns
-unfolding isLevel
+unfolding fitsHorizontal
 returns c =
     rw (sink (c .before .before .before .before) ∙ c .before .before .before .if1 .taken, ← c .before .before .opposite .ensures) (ap₂ _&&_ (c .before .has-arm .ensures) (c .has-arm2 .ensures))
 
 returns-2 : tie.Need-returns-2
-unfolding isLevel
+unfolding fitsHorizontal
 returns-2 c = rw (sink (c .before) ∙ c .if1 .left)
 
-pub is-level-spec : {M : Type 1} → statement M
-is-level-spec =
+pub fits-horizontal-spec : {M : Type 1} → statement M
+fits-horizontal-spec =
     tie.close
     (tie.spec
     pos-of-requires

@@ -1,13 +1,13 @@
--- `wire::transfer::is_fall` meets its contract: the sink is where the test says, and then the block under the source is asked. Assumes nothing.
+-- `wire::transfer::fits_fall` meets its contract: the sink is where the test says, and then the block under the source is asked. Assumes nothing.
 use mathlib.Core.Path.{_≡_, sym, ap₂, _∙_}
 use mathlib.Core.Bool.{_&&_}
 use borrow.Author.Needs.{needs}
 use Rattle.places.specs.Places.{samePos, beside, below}
 use Rattle.world.specs.Rows.{posOf}
 use Rattle.world.specs.Traits.{risesBy}
-use Rattle.wire.specs.Transfer.{isFall}
-use Rattle.wire.proofs.transfer.is_fall.Statement.{statement}
-use Rattle.wire.proofs.transfer.is_fall.Tie as tie
+use Rattle.wire.specs.Transfer.{fitsFall}
+use Rattle.wire.proofs.transfer.fits_fall.Statement.{statement}
+use Rattle.wire.proofs.transfer.fits_fall.Tie as tie
 
 pos-of-requires : tie.Need-pos-of-requires
 pos-of-requires c κs = search needs
@@ -44,17 +44,17 @@ sink : (c : tie.After-same) → samePos (below (beside (posOf (c .before .before
 sink c = rw (← c .before .before .before .before .pos-of .ensures, ← c .before .before .before .beside .ensures, ← c .before .before .below .ensures, ← c .before .pos-of2 .ensures) (sym (c .same .ensures))
 
 returns : tie.Need-returns
-unfolding isFall
+unfolding fitsFall
 returns c =
     rw (sink (c .before .before .before .before .before .before .before) ∙ c .before .before .before .before .before .before .if1 .taken, ← c .before .before .before .before .before .before .before .before .before .before .before .pos-of .ensures, ← c .before .before .before .before .before .below2 .ensures, ← c .before .before .before .opposite .ensures, c .before .rises-by .ensures)
     (ap₂ (λ r m. r .drives && risesBy r m) (c .before .before .before .before .traits-at .ensures) (c .before .before .arm-of .ensures))
 
 returns-2 : tie.Need-returns-2
-unfolding isFall
+unfolding fitsFall
 returns-2 c = rw (sink (c .before) ∙ c .if1 .left)
 
-pub is-fall-spec : {M : Type 1} → statement M
-is-fall-spec =
+pub fits-fall-spec : {M : Type 1} → statement M
+fits-fall-spec =
     tie.close
     (tie.spec
     pos-of-requires
