@@ -1,8 +1,8 @@
-//! docs/PROMISES.md and the must-fail edits, and docs/ARCHITECTURE.md and the crates.
+//! docs/PROMISES.md with the public functions and the must-fail edits, and docs/ARCHITECTURE.md with the crates.
 
 use std::collections::BTreeSet;
 
-use documents::{crates, marked, names_in, table_rows, text};
+use documents::{crates, marked, names_in, path, table_rows, text};
 
 /// An edit as CRATE and the name of its file, without `.edit`.
 type Edit = (String, String);
@@ -16,6 +16,53 @@ fn edits() -> Vec<Edit> {
         })
     };
     crates().into_iter().flat_map(of).collect()
+}
+
+/// The names of a library's functions that other crates can call: those of lib.rt and of its public modules.
+fn public_functions(name: &str) -> Vec<String> {
+    let library = format!("crates/{name}/src/lib.rt");
+    if !path(&library).is_file() {
+        return Vec::new();
+    }
+    let root = text(library);
+    let modules = root.lines().filter_map(|line| line.strip_prefix("pub mod ")?.strip_suffix(';'));
+    let sources = modules.map(|module| text(format!("crates/{name}/src/{module}.rt")));
+    let sources: Vec<_> = sources.chain([root.clone()]).collect();
+    sources.iter().flat_map(|source| source.lines()).filter_map(declared_function).collect()
+}
+
+fn declared_function(line: &str) -> Option<String> {
+    let line = line.trim_start().strip_prefix("pub ")?;
+    let line = line.strip_prefix("extern \"C\" ").unwrap_or(line).strip_prefix("fn ")?;
+    Some(line.split_once('(')?.0.to_string())
+}
+
+/// The names that the promises give in the section whose heading has the crate's name.
+fn promised(document: &str, name: &str) -> BTreeSet<String> {
+    let has_name = |section: &&str| {
+        let heading = section.lines().next().unwrap_or_default();
+        heading.split(|letter: char| !letter.is_alphanumeric() && letter != '_').any(|word| word == name)
+    };
+    let section = document.split("\n## ").skip(1).find(has_name);
+    let section = section.unwrap_or_else(|| panic!("no section of docs/PROMISES.md is about {name}"));
+    let rows = table_rows(section);
+    let names = rows.iter().flat_map(|row| marked(&row[0], '`'));
+    names.map(|name| name.rsplit("::").next().unwrap_or(name).to_string()).collect()
+}
+
+#[test]
+fn every_public_function_has_its_promise() {
+    let document = text("docs/PROMISES.md");
+    let mut missing = Vec::new();
+    for name in crates() {
+        let functions = public_functions(&name);
+        if !functions.is_empty() {
+            let promised = promised(&document, &name);
+            let without = functions.into_iter().filter(|function| !promised.contains(function));
+            missing.extend(without.map(|function| format!("{name}: {function}")));
+        }
+    }
+    assert!(missing.is_empty(), "not in docs/PROMISES.md: {missing:#?}");
 }
 
 #[test]
