@@ -17,6 +17,7 @@ pub mod random;
 #[cfg(all(feature = "redstone", not(no_original)))]
 pub mod redstone;
 pub mod refusals;
+pub mod report;
 pub mod suite;
 pub mod table;
 #[cfg(all(feature = "wire", not(no_original)))]
