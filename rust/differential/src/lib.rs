@@ -6,6 +6,8 @@ pub mod compare;
 #[cfg(all(feature = "connectivity", not(no_original)))]
 pub mod connectivity;
 pub mod damage;
+#[cfg(all(feature = "redstone", feature = "wire"))]
+pub mod differences;
 pub mod generate;
 #[cfg(not(no_original))]
 pub mod oracle;
