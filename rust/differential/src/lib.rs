@@ -6,6 +6,8 @@ pub mod compare;
 #[cfg(all(feature = "connectivity", not(no_original)))]
 pub mod connectivity;
 pub mod damage;
+#[cfg(all(feature = "redstone", feature = "wire"))]
+pub mod differences;
 pub mod generate;
 #[cfg(not(no_original))]
 pub mod oracle;
@@ -17,6 +19,7 @@ pub mod random;
 #[cfg(all(feature = "redstone", not(no_original)))]
 pub mod redstone;
 pub mod refusals;
+pub mod report;
 pub mod suite;
 pub mod table;
 #[cfg(all(feature = "wire", not(no_original)))]

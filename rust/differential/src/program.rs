@@ -1,7 +1,6 @@
 //! The program `settle`, run on an input beside what document 01 says of it.
 
 use std::ffi::{OsStr, OsString};
-use std::fmt::Write as _;
 use std::io::{self, ErrorKind, Write};
 use std::path::Path;
 use std::process::{Command, Stdio};
@@ -13,6 +12,7 @@ use crate::generate::Case;
 use crate::oracle::{Oracle, pos};
 use crate::redstone::fresh_devices;
 use crate::refusals::Refusal;
+use crate::report;
 use crate::table::Row;
 
 const PROFILE_BYTES: usize = 13;
@@ -54,29 +54,24 @@ pub fn written(program: &OsStr, input: &[u8]) -> io::Result<String> {
 /// What it is to write.
 pub fn expected(input: &[u8]) -> String {
     if input.len() > MOST_BYTES {
-        return refused(Refusal { number: 3, row: 0 });
+        return report::refused(Refusal { number: 3, row: 0 });
     }
     let (profile, table) = input.split_at(input.len().min(PROFILE_BYTES));
     let case = Case { seed: 0, sort: "", profile: profile.into(), table: table.into() };
     let oracle = Oracle::new(&case);
     match oracle.refusal {
         Ok(()) => settled(&oracle),
-        Err(refusal) => refused(refusal),
+        Err(refusal) => report::refused(refusal),
     }
-}
-
-fn refused(Refusal { number, row }: Refusal) -> String {
-    format!("refusal={number}\nplace={row}\n")
 }
 
 fn settled(oracle: &Oracle) -> String {
     let settled = oracle.settle(&fresh_devices(oracle), 128).expect("128 rounds are enough");
-    let mut lines = format!("blocks={}\nrounds={}\n", oracle.rows.len(), settled.iterations);
-    for Row { position, .. } in &oracle.rows {
-        let [x, y, z] = position;
-        let signal = settled.signal(pos(*position));
-        let PoweredBlockState { weak, strong } = settled.power(pos(*position));
-        writeln!(lines, "row={x},{y},{z},{signal},{weak},{strong}").expect("a string can be written");
-    }
-    lines
+    let numbers = |row: &Row| {
+        let at = pos(row.position);
+        let PoweredBlockState { weak, strong } = settled.power(at);
+        (row.position, [settled.signal(at), weak, strong])
+    };
+    let rows: Vec<_> = oracle.rows.iter().map(numbers).collect();
+    report::settled(settled.iterations as u32, &rows)
 }

@@ -21,7 +21,7 @@ use crate::table::{Position, ROW_BYTES};
 pub use alterations::ALTERATIONS;
 pub use edges::{edges, single_bytes};
 pub use queries::{fresh_devices, queries, settle_at_every_limit};
-pub use runs::{OriginalRun, ProvedRun, steps};
+pub use runs::{OriginalRun, ProvedRun, Step, steps};
 use state::unpack;
 pub use state::{device_outputs, pack};
 

@@ -3,6 +3,8 @@
 use std::cell::Cell;
 use std::collections::BTreeSet;
 use std::env;
+use std::panic::{UnwindSafe, catch_unwind, set_hook, take_hook};
+use std::sync::Once;
 
 use crate::compare::{Alteration, Altered, Answers, Compared, Query, Report, Tally, run};
 use crate::damage::damaged;
@@ -98,6 +100,27 @@ where
     let compared = compared.unwrap_or_else(|report| panic!("{report}")).comparisons;
     let altered: BTreeSet<_> = alterations.iter().map(|one| one.function).collect();
     assert!(compared.keys().eq(&altered), "compared {compared:?}, altered {altered:?}");
+}
+
+thread_local! {
+    static PANIC_EXPECTED: Cell<bool> = const { Cell::new(false) };
+}
+
+/// Whether a call panics. Nothing is printed of it.
+pub fn panics<T>(call: impl FnOnce() -> T + UnwindSafe) -> bool {
+    static HOOK: Once = Once::new();
+    HOOK.call_once(|| {
+        let print = take_hook();
+        set_hook(Box::new(move |panic| {
+            if !PANIC_EXPECTED.get() {
+                print(panic);
+            }
+        }));
+    });
+    PANIC_EXPECTED.set(true);
+    let panicked = catch_unwind(call).is_err();
+    PANIC_EXPECTED.set(false);
+    panicked
 }
 
 /// Stands in for an area's tests where there is nothing to compare with.

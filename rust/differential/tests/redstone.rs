@@ -20,7 +20,8 @@ mod compared {
         assert_alterations_reported, assert_compared, compare_many, good_cases, setting,
     };
     use differential::table::{self, Row, kind};
-    use original::sim::RedstoneTickSimulator;
+    use original::sim::{Parts, RedstoneTickSimulator};
+    use original::world::World;
 
     /// So many calls are compared, or more where DIFF_CALLS says so; 1,000,000 take some minutes.
     const CALLS: u64 = 50_000;
@@ -115,6 +116,17 @@ mod compared {
         let answer = Probe(case).answer(&call);
         assert_eq!(answer, Oracle::new(case).answer(&call), "{case}{call:?}");
         answer
+    }
+
+    /// The original counts ticks in 64 bits and goes on.
+    #[test]
+    fn a_tick_number_past_32_bits_is_refused() {
+        let case = bench_case(&[Row::new([0; 3], kind::LAMP)]);
+        let tick = |ticks| answer(&case, Input::Tick { state: vec![0; 16], tick: u32::MAX - 1, ticks });
+        assert_eq!([0, 1, 2, u32::MAX].map(|ticks| tick(ticks).refusal()), [None, None, Some(9), Some(9)]);
+        let parts = Parts { tick: u32::MAX.into(), ..Parts::default() };
+        let mut original = RedstoneTickSimulator::from_parts(World::new(), parts).unwrap();
+        assert_eq!(original.advance_tick().unwrap().tick, 1 << 32);
     }
 
     /// The editor's crate has only 0 and 1 for a switch.

@@ -9,9 +9,11 @@ fn the_original_was_not_found() {
 #[cfg(not(no_original))]
 mod compared {
     use differential::generate::{BENCH_PROFILE, Case};
-    use differential::suite::{assert_agrees, assert_alterations_reported, good_cases, with_damaged};
+    use differential::probe::probe_offset;
+    use differential::suite::{assert_agrees, assert_alterations_reported, good_cases, panics, with_damaged};
     use differential::table::{self, Row};
     use differential::world::{ALTERATIONS, compare_case};
+    use original::world::Pos;
 
     #[test]
     fn world_agrees_with_the_original() {
@@ -31,6 +33,17 @@ mod compared {
         profile[usize::from(kind)] = bits;
         let row = Row { shape, ..Row::new([0; 3], kind) };
         Case { seed: 0, sort: "one block", profile, table: table::encode(&[row]) }
+    }
+
+    /// The original's sum overflows: it panics, or wraps where overflow is not checked.
+    #[test]
+    fn an_offset_past_32_bits_stops_at_the_end() {
+        for (from, by) in [(i32::MAX, 1), (i32::MAX, i32::MAX), (i32::MIN, -1), (i32::MIN, i32::MIN)] {
+            let stopped = [0, 1, 2].map(|axis| probe_offset(from, from, from, by, by, by, axis));
+            assert_eq!(stopped, [from; 3], "moved by {by}");
+        }
+        let overflows = || Pos::new(i32::MAX, 0, 0).offset(1, 0, 0).x;
+        assert!(panics(overflows) || overflows() == i32::MIN);
     }
 
     #[test]

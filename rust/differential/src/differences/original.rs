@@ -1,0 +1,52 @@
+//! The original.
+
+use super::bench::{Bench, Settled};
+use crate::compare::Answers;
+use crate::oracle::Oracle;
+use crate::redstone::{OriginalRun, SIGNAL, STATE, STRONG, Step, WEAK};
+use crate::refusals::Refusal;
+use crate::table::Position;
+use crate::wire::WireQuery;
+use crate::world::WorldQuery;
+
+pub struct Original<'a> {
+    oracle: &'a Oracle<'a>,
+    run: OriginalRun<'a>,
+}
+
+impl<'a> Original<'a> {
+    pub fn new(oracle: &'a Oracle<'a>) -> Self {
+        Self { oracle, run: OriginalRun::new(oracle) }
+    }
+
+    fn step(&self, step: Step) -> Settled {
+        let mut answer = self.run.answer(&step);
+        let columns = [SIGNAL, WEAK, STRONG].map(|column| answer.bytes(column));
+        Settled { rounds: answer.number as u32, state: answer.bytes(STATE), columns }
+    }
+}
+
+impl Bench for Original<'_> {
+    fn fresh(&mut self) -> Result<Settled, Refusal> {
+        self.oracle.refusal?;
+        Ok(self.step(Step::Fresh))
+    }
+
+    fn tick(&mut self, ticks: u32) -> Settled {
+        self.step(Step::Ticks(ticks))
+    }
+
+    fn switch(&mut self, at: Position, powered: bool) -> Settled {
+        self.step(Step::Switch { at, powered })
+    }
+
+    fn redrawn(&self) -> Vec<u8> {
+        self.oracle.answer(&WireQuery::Redraw).bytes(0)
+    }
+
+    fn unsupported(&self) -> Vec<u16> {
+        let mut answer = self.oracle.answer(&WorldQuery::SupportIssues { entries: self.oracle.rows.len() });
+        let count = answer.number as usize;
+        answer.buffers[0].entries()[..count].to_vec()
+    }
+}

@@ -1,0 +1,173 @@
+//! docs/DIFFERENCES.md: its tables answer as is written under them, and the tests that it names are there.
+
+use std::fs;
+use std::io::Write;
+use std::path::{Path, PathBuf};
+
+use differential::differences::{Example, Fault, Proved, check, examples, named_tests, tests_in};
+
+const DOCUMENT: &str = "docs/DIFFERENCES.md";
+
+fn in_repository(path: &str) -> PathBuf {
+    Path::new(env!("CARGO_MANIFEST_DIR")).join("../..").join(path)
+}
+
+fn document() -> String {
+    fs::read_to_string(in_repository(DOCUMENT)).unwrap_or_else(|error| panic!("{DOCUMENT}: {error}"))
+}
+
+/// The number of tables that were checked.
+fn check_each(document: &str, check: impl Fn(&Example) -> Result<(), Fault>) -> Result<usize, Fault> {
+    let examples = examples(document)?;
+    examples.iter().try_for_each(check)?;
+    Ok(examples.len())
+}
+
+fn check_proved(document: &str) -> Result<usize, Fault> {
+    check_each(document, |example| check(example, || Proved::new(example.case())))
+}
+
+fn assert_checked(bench: &str, checked: Result<usize, Fault>) {
+    let tables = checked.unwrap_or_else(|fault| panic!("{DOCUMENT}, {bench}: {fault}"));
+    writeln!(std::io::stdout(), "\n{DOCUMENT}, {bench}: {tables} tables")
+        .expect("standard output can be written");
+}
+
+#[test]
+fn the_bench_answers_as_is_written() {
+    assert_checked("bench", check_proved(&document()));
+}
+
+#[cfg(not(no_original))]
+#[test]
+fn the_original_answers_as_is_written() {
+    use differential::differences::Original;
+    use differential::oracle::Oracle;
+
+    let checked = check_each(&document(), |example| {
+        let case = example.case();
+        let oracle = Oracle::new(&case);
+        check(example, || Original::new(&oracle))
+    });
+    assert_checked("original", checked);
+}
+
+#[cfg(no_original)]
+#[test]
+fn the_original_was_not_found() {
+    differential::suite::say_original_not_found("differences");
+}
+
+/// Each line that is an answer, once changed, is reported.
+#[test]
+fn every_written_answer_counts() {
+    let document = document();
+    let examples = examples(&document).unwrap_or_else(|fault| panic!("{fault}"));
+    let lines = examples.iter().flat_map(|example| &example.answers).flat_map(|written| &written.lines);
+    for line in lines.filter(|line| line.text.contains('=')) {
+        let mut changed: Vec<_> = document.lines().collect();
+        let text = format!("{}0", line.text);
+        changed[line.number - 1] = &text;
+        let fault = check_proved(&changed.join("\n")).expect_err(&text);
+        assert_eq!(fault.line, line.number, "{fault}");
+    }
+}
+
+const SETTLED: &str = "\
+#### 1. One block
+
+```table
+0,0,0 Solid
+```
+```output
+blocks=1
+rounds=2
+row=0,0,0,0,0,0
+```
+";
+
+const RUN: &str = "\
+```table
+0,0,0 Lever
+```
+```run
+switch 0,0,0 on
+tick 1
+row=0,0,0,15,0,0
+```
+";
+
+/// A text, and what takes its place.
+type Change = (&'static str, &'static str);
+
+const FAULTS_WHEN_SETTLED: [Change; 29] = [
+    (SETTLED, ""),
+    ("#### 1. One block", "#### 2. One block"),
+    ("#### 1. One block", "#### One block"),
+    ("#### 1. One block\n", "#### 1. One block\n#### 2. Another\n"),
+    ("```table\n0,0,0 Solid\n```\n", ""),
+    ("```table", "```tables"),
+    ("```table", " ```table"),
+    ("```table", "```"),
+    ("0,0,0 Solid", "0,0 Solid"),
+    ("0,0,0 Solid", "0,0,0  Solid"),
+    ("0,0,0 Solid", "0,0,0"),
+    ("0,0,0 Solid", ""),
+    ("0,0,0 Solid", "0,0,0 Stone"),
+    ("0,0,0 Solid", "0,0,0 Solid facing"),
+    ("0,0,0 Solid", "0,0,0 Solid facing=Left"),
+    ("0,0,0 Solid", "0,0,0 Solid colour=red"),
+    ("0,0,0 Solid", "0,0,0 Solid delay=1 delay=2"),
+    ("0,0,0 Solid", "0,0,0 Solid level=256"),
+    ("0,0,0 Solid", "0,0,0 Solid support=0,-1"),
+    ("0,0,0 Solid", "0,0,0 Solid support=0,-2,0"),
+    ("0,0,0 Solid", "0,0,0 Solid arms=Up:Side"),
+    ("0,0,0 Solid", "0,0,0 Solid arms=East:Side,East:None"),
+    ("0,0,0 Solid", "0,0,0 Solid mode=add"),
+    ("```output", "```outputs"),
+    ("```output\nblocks=1\nrounds=2\nrow=0,0,0,0,0,0\n```\n", ""),
+    ("rounds=2", "rounds=3"),
+    ("rounds=2\n", ""),
+    ("row=0,0,0,0,0,0\n", "row=0,0,0,0,0,0\nrow=0,0,0,0,0,0\n"),
+    ("row=0,0,0,0,0,0\n```", "row=0,0,0,0,0,0\n"),
+];
+
+const FAULTS_IN_A_RUN: [Change; 12] = [
+    ("switch 0,0,0 on", "switch 0,0,0"),
+    ("switch 0,0,0 on", "switch 0,0,0 up"),
+    ("switch 0,0,0 on", "switch 0,1,0 on"),
+    ("switch 0,0,0 on", "press 0,0,0"),
+    ("tick 1", "tick"),
+    ("tick 1", "tick one"),
+    ("row=0,0,0,15,0,0", "row=0,0,0,15,0"),
+    ("row=0,0,0,15,0,0", "row=0,1,0,15,0,0"),
+    ("row=0,0,0,15,0,0", "row=0,0,0,14,0,0"),
+    ("row=0,0,0,15,0,0", "light=0,0,0,1"),
+    ("row=0,0,0,15,0,0", "device=0,0,0,1"),
+    ("row=0,0,0,15,0,0\n", ""),
+];
+
+#[test]
+fn faults_are_reported() {
+    for (document, changes) in [(SETTLED, &FAULTS_WHEN_SETTLED[..]), (RUN, &FAULTS_IN_A_RUN)] {
+        check_proved(document).unwrap_or_else(|fault| panic!("{fault}"));
+        for (text, other) in changes {
+            assert!(document.contains(text), "{text:?}");
+            let changed = document.replace(text, other);
+            assert!(check_proved(&changed).is_err(), "{other:?} in place of {text:?} was not reported");
+        }
+    }
+    assert!(named_tests("| what | no test |").is_err());
+}
+
+#[test]
+fn the_named_tests_are_there() {
+    let document = document();
+    let named = named_tests(&document).unwrap_or_else(|fault| panic!("{DOCUMENT}: {fault}"));
+    let tests = ["rust/differential", "rust/redstone"]
+        .map(|folder| tests_in(&in_repository(folder)).unwrap_or_else(|error| panic!("{folder}: {error}")));
+    assert!(!named.is_empty(), "{DOCUMENT} names no test");
+    for (line, name) in named {
+        assert!(tests.iter().any(|tests| tests.contains(name)), "{DOCUMENT}, line {line}: no test is {name}");
+    }
+}
