@@ -16,8 +16,8 @@ use Rattle.refusals.specs.Check.{IsAccepted, checkInput}
 use Rattle.refusals.proofs.Passed.{passed-unless, passed-both}
 use Rattle.refusals.proofs.Accepted.{accepted-input}
 use Rattle.electrical.specs.Answer.{roundsOf, goodColumns}
-use Rattle.solver.specs.Prepared.{Outputs}
-use Rattle.solver.proofs.Lending.{length-zeros}
+use Rattle.rounds.specs.Prepared.{Outputs}
+use Rattle.rounds.proofs.Lending.{length-zeros}
 use Rattle.wire.proofs.Alike.{same-rows}
 use Rattle.sim.specs.State.{devicesOf, IsValidState, checkState}
 use Rattle.sim.specs.Running.{Room, Ready, Stands}

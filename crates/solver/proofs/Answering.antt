@@ -16,10 +16,11 @@ use Rattle.refusals.proofs.Passed.{passed-unless, passed-both}
 use Rattle.refusals.proofs.Accepted.{Table, accepted-input}
 use Rattle.electrical.specs.Emitted.{checkDevices}
 use Rattle.electrical.specs.Answer.{roundsOf, settled, goodColumns, checkCall, checkSettle, Settles}
-use Rattle.solver.specs.Prepared.{Outputs}
-use Rattle.solver.specs.Outcome.{outcomeOf, answerBy, Solves}
-use Rattle.solver.specs.declared.Outcome.{Outcome}
-use Rattle.solver.specs.declared.Outcome.the-variants.{Settled, Unsettled}
+use Rattle.rounds.specs.declared.Outcome.{Outcome}
+use Rattle.rounds.specs.declared.Outcome.the-variants.{Settled, Unsettled}
+use Rattle.rounds.specs.Prepared.{Outputs}
+use Rattle.rounds.specs.Outcome.{outcomeOf, Solves}
+use Rattle.solver.specs.Answer.{answerBy}
 
 module _ (p t : Bytes) (d signal weak strong : Column) where
   -- a call that passes its checks

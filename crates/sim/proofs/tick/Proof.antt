@@ -2,7 +2,7 @@
 use mathlib.Core.Path.{_≡_, sym, _∙_}
 use lib.ListN.{length}
 use Rattle.refusals.specs.declared.Checked.the-variants.{Accepted}
-use Rattle.solver.proofs.Lending.{length-zeros}
+use Rattle.rounds.proofs.Lending.{length-zeros}
 use Rattle.sim.specs.State.{IsValidState}
 use Rattle.sim.specs.Calls.{checkTick}
 use Rattle.sim.proofs.Passing.{Passed, passed-tick, few, device-room}
