@@ -1,9 +1,9 @@
 -- `sim::state::fill_devices` meets its contract. The loop's invariant: the bytes of the rows passed are there. Assumes nothing.
 use borrow.Author.Needs.{needs}
-use mathlib.Core.Path.{sym, _∙_}
 use Prim.Native.Nat.{_-_}
+use native.Mathlib.Omega.{arith}
 use lib.ListN.{length}
-use Rattle.columns.proofs.Columns.{Filled, fills}
+use Rattle.columns.proofs.Columns.{Filled, filled-more, fills}
 use Rattle.states.specs.Row.{deviceOf}
 use Rattle.sim.specs.State.{sixteen, devicesOf}
 use Rattle.sim.proofs.Turns.{device-at}
@@ -35,14 +35,14 @@ loop-less : tie.Need-loop-less Inv-loop μ-loop
 loop-less c = search needs
 
 loop-again : tie.Need-loop-again Inv-loop μ-loop
-loop-again c = let byte = c .byte-at .ensures ∙ sym (device-at _ _) in search (fills, needs)
+loop-again c = filled-more (c .before .before .loop .inv) (omega arith) (rw device-at (c .byte-at .ensures))
 
 same-length : tie.Need-same-length Inv-loop μ-loop
 same-length c = search needs
 
 returns : tie.Need-returns Inv-loop μ-loop
 unfolding devicesOf
-returns c = rw (← c .before .before .pre .1) (search (fills, needs))
+returns c = rw (← c .before .before .before .before .before .pre .1) (search (fills, needs))
 
 pub fill-devices-spec : {M : Type 1} → statement M
 fill-devices-spec =

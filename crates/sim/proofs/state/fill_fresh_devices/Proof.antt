@@ -37,7 +37,7 @@ same-length c = search needs
 
 returns : tie.Need-returns Inv-loop μ-loop
 unfolding freshDevices
-returns c = rw (← c .before .before .pre) (search (fills, needs))
+returns c = rw (← c .before .before .before .before .pre) (search (fills, needs))
 
 pub fill-fresh-devices-spec : {M : Type 1} → statement M
 fill-fresh-devices-spec =
