@@ -17,7 +17,8 @@ use Rattle.places.proofs.Order.{samePos-true}
 use Rattle.places.proofs.Steps.{InRange, sideways, offset-back, sideways-back, opposite-horizontal, above-beside, below-beside, aroundAlong, around}
 use Rattle.world.specs.Rows.{rows, posOf, kindOf}
 use Rattle.world.specs.Traits.{traits}
-use Rattle.refusals.proofs.Accepted.{Table, in-range}
+use Rattle.refusals.specs.Accepted.{Table}
+use Rattle.refusals.proofs.Accepted.{in-range}
 use Rattle.wire.specs.Transfer.{transmits}
 use Rattle.wire.proofs.Around.{transmits-around}
 use Rattle.electrical.specs.Edges.{someOf, armTo, alongArm, under}

@@ -20,7 +20,8 @@ use Rattle.places.proofs.Order.{samePos-true, samePos-refl, before-irrefl, befo
 use Rattle.world.specs.Rows.{rows, posOf}
 use Rattle.world.specs.Find.{find}
 use Rattle.world.proofs.Finding.{found-stands}
-use Rattle.refusals.proofs.Accepted.{Table, later-after, find-at}
+use Rattle.refusals.specs.Accepted.{Table}
+use Rattle.refusals.proofs.Accepted.{later-after, find-at}
 use Rattle.gather.specs.Seek.{middle, halved, halvings, sought}
 
 -- ---- one turn, with so many halvings left

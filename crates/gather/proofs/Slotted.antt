@@ -21,7 +21,8 @@ use Rattle.world.specs.Rows.{rows, posOf, kindOf}
 use Rattle.world.specs.Find.{find}
 use Rattle.world.specs.Traits.{traits}
 use Rattle.world.proofs.Finding.{found-stands}
-use Rattle.refusals.proofs.Accepted.{Table, find-at}
+use Rattle.refusals.specs.Accepted.{Table}
+use Rattle.refusals.proofs.Accepted.{find-at}
 use Rattle.wire.specs.Transfer.{transmits}
 use Rattle.wire.proofs.Around.{transmits-dust}
 use Rattle.electrical.specs.Edges.{under}

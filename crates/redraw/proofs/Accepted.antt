@@ -25,7 +25,7 @@ use Rattle.world.specs.Rows.{rows, byteOf, posOf, kindOf, shapeOf}
 use Rattle.world.specs.Find.{find}
 use Rattle.world.specs.Traits.{ArmNone, ArmSide, ArmUp, isArm, nothing, topHalf, doubleSlab, glass, plain, ofShape, traits, traitsAt}
 use Rattle.refusals.specs.Good.{goodPlace, goodKind, goodValue, goodSupport, goodArms, goodTail, goodRow}
-use Rattle.refusals.proofs.Accepted.{Table}
+use Rattle.refusals.specs.Accepted.{Table}
 use Rattle.wire.specs.Arms.{joins, rises, drops, inferPast, inferWireConnection}
 use Rattle.wire.proofs.Alike.{Alike, same-rows, same-place}
 use Rattle.redraw.specs.declared.Arms.{Arms}

@@ -21,17 +21,12 @@ use Rattle.world.specs.Rows.{rows, posOf}
 use Rattle.world.specs.Find.{standsAt, find}
 use Rattle.refusals.specs.declared.Checked.the-variants.{Accepted}
 use Rattle.refusals.specs.Good.{goodProfile, goodRow}
+use Rattle.refusals.specs.Accepted.{Table}
 use Rattle.refusals.specs.Check.{isBad, isMisplaced, checkRows, checkTable, checkInput}
 use Rattle.refusals.proofs.Passed.{passed-unless, passed-at}
 use Rattle.refusals.proofs.Fields.{good-fields}
 
 -- ---- an accepted table
-
-pub record Table (t : Bytes) : Type 0 where
-  pub whole : length t ≡ rows t * 32
-  pub few : rows t ≤ 1024
-  pub good : (i : ℕ) → i < rows t → goodRow t i ≡ true
-  pub ordered : (i : ℕ) → i + 1 < rows t → before (posOf t i) (posOf t (i + 1)) ≡ true
 
 pub accepted-table : (t : Bytes) → checkTable t ≡ Accepted → Table t
 unfolding checkTable checkRows

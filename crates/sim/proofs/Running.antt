@@ -10,9 +10,9 @@ use Rattle.refusals.specs.Check.{IsAccepted}
 use Rattle.electrical.specs.Emitted.{IsValid}
 use Rattle.electrical.specs.Answer.{roundsOf, settled, checkCall}
 use Rattle.electrical.proofs.Demand.{rounds-range}
-use Rattle.solver.specs.declared.Outcome.{Outcome}
-use Rattle.solver.specs.declared.Outcome.the-variants as Outcome
-use Rattle.solver.specs.Outcome.{outcomeOf, Solves}
+use Rattle.rounds.specs.declared.Outcome.{Outcome}
+use Rattle.rounds.specs.declared.Outcome.the-variants as Outcome
+use Rattle.rounds.specs.Outcome.{outcomeOf, Solves}
 use Rattle.states.specs.Fresh.{numbersOf, powersOf}
 use Rattle.sim.specs.State.{devicesOf, IsValidState}
 use Rattle.sim.specs.Tick.{withDevices, withLamps, settledOf, setDevices, setLamps, tick, ticks}

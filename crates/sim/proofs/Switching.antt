@@ -23,7 +23,8 @@ use Rattle.world.specs.Find.{find}
 use Rattle.refusals.specs.declared.Checked.the-variants.{Accepted}
 use Rattle.refusals.specs.Good.{goodPlace, goodKind, goodValue, goodSupport, goodArms, goodTail, goodRow}
 use Rattle.refusals.specs.Check.{IsAccepted, isBad, isMisplaced, checkRows, checkTable, checkInput}
-use Rattle.refusals.proofs.Accepted.{Table, accepted-input}
+use Rattle.refusals.specs.Accepted.{Table}
+use Rattle.refusals.proofs.Accepted.{accepted-input}
 use Rattle.refusals.proofs.Fields.{good-fields}
 use Rattle.electrical.specs.Emitted.{IsValid}
 use Rattle.electrical.proofs.Devices.{valid-devices, devices-valid}

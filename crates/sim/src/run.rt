@@ -6,7 +6,7 @@ use crate::state::set_devices;
 use crate::state::set_lamps;
 use columns::Found;
 use places::Pos;
-use solver::Outcome;
+use rounds::Outcome;
 use world::signal::Rounds;
 ghost use mathlib.Core.Path.{_≡_};
 ghost use mathlib.Core.Bool.{cond};

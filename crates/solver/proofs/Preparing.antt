@@ -11,16 +11,16 @@ use Rattle.network.specs.Network.{strongOf}
 use Rattle.network.specs.Settled as Network
 use Rattle.network.specs.Laws.Loop.{unmapped}
 use Rattle.world.specs.Rows.{rows}
-use Rattle.refusals.proofs.Accepted.{Table}
+use Rattle.refusals.specs.Accepted.{Table}
 use Rattle.electrical.specs.Emitted as Emitted
 use Rattle.electrical.specs.Answer as Answer
 use Rattle.electrical.specs.Edges.{strongly, through, networkOf}
 use Rattle.gather.specs.Arrivals.{directAt}
 use Rattle.gather.specs.Slots as Slots
-use Rattle.solver.specs.Prepared.{Made, Room}
-use Rattle.solver.specs.Outcome.{Solves}
-use Rattle.solver.specs.declared.Outcome.{Outcome}
-use Rattle.solver.proofs.Rounds.{made-rows}
+use Rattle.rounds.specs.declared.Outcome.{Outcome}
+use Rattle.rounds.specs.Outcome.{Solves}
+use Rattle.rounds.proofs.Rounds.{made-rows}
+use Rattle.solver.specs.Made.{Made, Room}
 
 module _ (p : Bytes) (d : Column) {t : Bytes} {e₀ g₀ base₀ direct₀ feeders₀ unders₀ e g base direct feeders unders : Column} {empty : Bool}
     (accepted : Table t) (room : Room t e₀ g₀ base₀ direct₀ feeders₀ unders₀)

@@ -1,24 +1,18 @@
 // Settling: `solve_instantaneous`.
 mod prepare;
-mod round;
-mod settle;
 
 use crate::prepare::solve_in;
 use electrical::device::check_call;
 use refusals::Checked;
 use refusals::answer;
+use rounds::Outcome;
 use world::row::rows;
 ghost use mathlib.Core.Path.{_≡_};
 ghost use lib.ListN.{length};
 ghost use Rattle.refusals.specs.declared.Checked.{Checked};
 ghost use Rattle.electrical.specs.Answer.{roundsOf, settled, checkCall, Settles};
-ghost use Rattle.solver.specs.Outcome.{answerBy, Solves};
-
-// How settling ends: by the round that answers, or at the limit.
-pub enum Outcome {
-    Settled { rounds: u32 },
-    Unsettled,
-}
+ghost use Rattle.rounds.specs.Outcome.{Solves};
+ghost use Rattle.solver.specs.Answer.{answerBy};
 
 // Settles a table whose inputs passed their checks: the simulator, which has made them, settles once a tick. This is the one public function here
 // that requires something of its caller.

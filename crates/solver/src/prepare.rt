@@ -1,13 +1,14 @@
 // The columns that no round changes, and then the rounds.
-use crate::Outcome;
-use crate::settle::settle;
 use gather::arrivals;
 use gather::arrivals::Edge;
 use gather::slots;
-ghost use Rattle.refusals.proofs.Accepted.{Table};
+use rounds::Outcome;
+use rounds::settle::settle;
+ghost use Rattle.refusals.specs.Accepted.{Table};
 ghost use Rattle.electrical.specs.Answer.{roundsOf, settled};
-ghost use Rattle.solver.specs.Prepared.{Made, Room, Outputs};
-ghost use Rattle.solver.specs.Outcome.{Solves};
+ghost use Rattle.rounds.specs.Prepared.{Outputs};
+ghost use Rattle.rounds.specs.Outcome.{Solves};
+ghost use Rattle.solver.specs.Made.{Made, Room};
 
 // What no round changes, and whether the power map is empty.
 fn prepare(

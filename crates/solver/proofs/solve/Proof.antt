@@ -3,10 +3,10 @@ use borrow.Author.Needs.{needs}
 use mathlib.Core.Path.{ap, sym, _∙_}
 use Prim.Native.Nat.{_*_, _≤_}
 use native.Mathlib.Omega.{arith}
-use Rattle.refusals.proofs.Accepted.{Table}
-use Rattle.solver.specs.Prepared.{Outputs}
+use Rattle.refusals.specs.Accepted.{Table}
+use Rattle.rounds.specs.Prepared.{Outputs}
+use Rattle.rounds.proofs.Lending.{length-zeros, fits}
 use Rattle.solver.proofs.Answering.{passed-call}
-use Rattle.solver.proofs.Lending.{length-zeros, fits}
 use Rattle.solver.proofs.solve.Statement.{statement}
 use Rattle.solver.proofs.solve.Tie as tie
 

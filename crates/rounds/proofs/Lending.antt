@@ -1,0 +1,42 @@
+-- Laws of the room that is lent: the output columns of a call, and the front of an array of zeros, lent as a column.
+-- Assumes nothing.
+use mathlib.Core.Path.{_≡_, _∙_}
+use mathlib.Core.Bool.{true}
+use Prim.Native.Nat.{ℕ, _≤_}
+use native.Mathlib.Omega.{arith}
+use lib.ListN.{length, take, replicate, length-replicate, getD-replicate}
+use lib.Seq.{length-take-le, getD-take}
+use lib.Dec.{eqb}
+use borrow.Author.Tests.{eqb-true}
+use Rattle.columns.specs.Column.{Bytes, Column}
+use Rattle.columns.proofs.Columns.{is-tabulate}
+use Rattle.columns.proofs.Truth.{and-true}
+use Rattle.network.specs.Network.{nowhere}
+use Rattle.world.specs.Rows.{rows}
+use Rattle.refusals.specs.Accepted.{Table}
+use Rattle.electrical.specs.Edges.{networkOf}
+use Rattle.electrical.specs.Answer.{goodColumns}
+use Rattle.rounds.specs.Prepared.{Outputs}
+
+-- output columns that pass their check
+pub outputs : (t : Bytes) (signal weak strong : Column) → goodColumns t (length signal) (length weak) (length strong) ≡ true → Outputs t signal weak strong
+outputs t signal weak strong h =
+    let (s, others) = and-true (eqb (length signal) (rows t)) _ h in
+    let (w, g) = and-true (eqb (length weak) (rows t)) _ others in
+    record { signal-rows = eqb-true _ _ s; weak-rows = eqb-true _ _ w; strong-rows = eqb-true _ _ g }
+
+-- as long as it was taken
+pub length-zeros : (n m : ℕ) → n ≤ m → length (take {A = ℕ} n (replicate m 0)) ≡ n
+length-zeros n m h = length-take-le n (replicate m 0) (rw (length-replicate {A = ℕ} m 0) h)
+
+-- w entries a row of an accepted table
+module _ {t : Bytes} (accepted : Table t) (n : ℕ) (is : n ≡ rows t) where
+  pub fits : n ≤ 1024
+  fits = omega (arith, accepted .few)
+
+  -- no power anywhere
+  pub zeros-nowhere : (p : Bytes) → take {A = ℕ} n (replicate 1024 0) ≡ nowhere (networkOf p t)
+  unfolding nowhere networkOf
+  zeros-nowhere p =
+      is-tabulate (take n (replicate 1024 0)) (rows t) (λ i. 0) (length-zeros n 1024 fits ∙ is)
+      (λ i l. getD-take n (replicate 1024 0) i 0 (omega arith) ∙ getD-replicate 1024 i 0 0 (omega (arith, accepted .few)))
