@@ -2,17 +2,11 @@
 -- Assumes nothing.
 use mathlib.Core.Bool.{Bool, false, cond, _&&_}
 use Prim.Native.Nat.{ℕ}
-use Rattle.places.specs.declared.Pos.{Pos}
 use lib.ListN.{getD, drop}
 use lib.Dec.{eqb}
 use Rattle.columns.specs.Column.{Bytes}
-use Rattle.world.specs.Rows.{posOf}
-use Rattle.vectors.specs.Record.{word, long, after, sliceOf, hasParts}
-use Rattle.vectors.specs.Answers.{traitsAgree, shapeAgrees, findAgrees, supportsAgree, propertiesAgree, offsetAgrees}
-
--- a position, laid out as in a row of a table
-abbrev pub posAt : Bytes → ℕ → Pos
-posAt s at = posOf (drop at s) 0
+use Rattle.records.specs.Record.{long, posAt, after, sliceOf, number, hasParts}
+use Rattle.answers.specs.Answers.{traitsAgree, shapeAgrees, findAgrees, supportsAgree, propertiesAgree, offsetAgrees}
 
 module _ (r : Bytes) where
   -- 1: profile, table, traits
@@ -31,7 +25,7 @@ module _ (r : Bytes) where
 
   -- 4: profile, table, list; answer
   abbrev pub supportsRight : Bool
-  supportsRight = hasParts r 3 4 && supportsAgree (sliceOf r 0) (sliceOf r 1) (sliceOf r 2) (word (after r 3))
+  supportsRight = hasParts r 3 4 && supportsAgree (sliceOf r 0) (sliceOf r 1) (sliceOf r 2) (number r 3 0)
 
   -- 5: profile; properties
   abbrev pub propertiesRight : Bool
