@@ -6,6 +6,7 @@ use lib.ListN.{getD, drop}
 use lib.Dec.{eqb}
 use Rattle.columns.specs.Column.{Bytes}
 use Rattle.records.specs.Record.{long, posAt, after, sliceOf, number, hasParts}
+use Rattle.calls.specs.Calls.{settleRight, freshRight, ticksRight, switchRight}
 use Rattle.answers.specs.Answers.{traitsAgree, shapeAgrees, findAgrees, supportsAgree, propertiesAgree, offsetAgrees}
 
 module _ (r : Bytes) where
@@ -35,14 +36,20 @@ module _ (r : Bytes) where
   abbrev pub offsetRight : Bool
   offsetRight = hasParts r 0 36 && offsetAgrees (posAt (after r 0) 0) (posAt (after r 0) 12) (posAt (after r 0) 24)
 
-  -- the answer of an operation that is not known is wrong
+  -- 10 to 13: the editor's calls. The answer of an operation that is not known is wrong
+  abbrev pub callRight : ℕ → Bool
+  callRight operation =
+      cond (eqb operation 10) (settleRight r)
+      (cond (eqb operation 11) (freshRight r)
+      (cond (eqb operation 12) (ticksRight r) (cond (eqb operation 13) (switchRight r) false)))
+
   abbrev pub rightBy : ℕ → Bool
   rightBy operation =
       cond (eqb operation 1) traitsRight
       (cond (eqb operation 2) shapeRight
       (cond (eqb operation 3) findRight
       (cond (eqb operation 4) supportsRight
-      (cond (eqb operation 5) propertiesRight (cond (eqb operation 6) offsetRight false)))))
+      (cond (eqb operation 5) propertiesRight (cond (eqb operation 6) offsetRight (callRight operation))))))
 
   -- the first byte is the operation
   unfoldable pub isRight : Bool

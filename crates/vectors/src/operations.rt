@@ -9,7 +9,7 @@ use records::pos_at;
 use records::slice_of;
 ghost use mathlib.Core.Path.{_≡_};
 ghost use lib.IntN.{ℤ};
-ghost use Rattle.vectors.specs.Operations.{traitsRight, shapeRight, findRight, supportsRight, propertiesRight, offsetRight, isRight};
+ghost use Rattle.vectors.specs.Operations.{traitsRight, shapeRight, findRight, supportsRight, propertiesRight, offsetRight, callRight, isRight};
 
 fn traits_right(r: &[u8]) -> bool
     ensures { λ b. ⌜ b ≡ traitsRight (now (r .entry)) ⌝ }
@@ -64,7 +64,20 @@ fn offset_right(r: &[u8]) -> bool
         & answers::offset_agrees(pos_at(rest, 0), pos_at(rest, 12), pos_at(rest, 24))
 }
 
-// By the operation, the first byte. One that is not known is wrong.
+// The editor's calls. An operation that is not known is wrong.
+fn call_right(r: &[u8], operation: u8) -> bool
+    ensures { λ b. ⌜ b ≡ callRight (now (r .entry)) operation ⌝ }
+{
+    match operation {
+        10 => calls::settle_right(r),
+        11 => calls::fresh_right(r),
+        12 => calls::ticks_right(r),
+        13 => calls::switch_right(r),
+        _ => false,
+    }
+}
+
+// By the operation, the first byte.
 pub fn is_right(r: &[u8]) -> bool
     ensures { λ b. ⌜ b ≡ isRight (now (r .entry)) ⌝ }
 {
@@ -76,6 +89,6 @@ pub fn is_right(r: &[u8]) -> bool
         4 => supports_right(r),
         5 => properties_right(r),
         6 => offset_right(r),
-        _ => false,
+        _ => call_right(r, operation),
     }
 }
