@@ -18,9 +18,9 @@ use Rattle.records.specs.Record.{posAt, after, sliceOf, number, hasParts, mostR
 
 -- ---- what a call is lent
 
--- every byte of a buffer that the call is to fill, before it
+-- every byte of a buffer that the call is to fill, before it: one that a call seldom writes
 abbrev pub blank : ℕ
-blank = 255
+blank = 195
 
 -- a buffer of n such bytes
 abbrev pub blanks : ℕ → Bytes

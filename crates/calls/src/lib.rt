@@ -14,7 +14,7 @@ ghost use lib.IntN.{ℤ};
 ghost use Rattle.calls.specs.Calls.{columnsAgree, settleIn, settleRight, freshIn, freshRight, ticksIn, ticksRight, switchIn, switchRight};
 
 // What every byte of a buffer that a call is to fill is before it.
-const BLANK: u8 = 255;
+const BLANK: u8 = 195;
 
 // The bytes of a table of the most rows.
 const MOST: usize = 2048;
