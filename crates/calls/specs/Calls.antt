@@ -4,7 +4,7 @@
 use mathlib.Core.Bool.{Bool, _&&_}
 use Prim.Native.Nat.{ℕ, _+_, _*_}
 use lib.ListN.{length, replicate}
-use lib.Dec.{eqb, leb}
+use lib.Dec.{eqb}
 use Rattle.columns.specs.Column.{Bytes, Column, same}
 use Rattle.network.specs.Network.{State}
 use Rattle.world.specs.Rows.{rows}
@@ -14,7 +14,7 @@ use Rattle.electrical.specs.Answer.{roundsOf, settled, checkSettle}
 use Rattle.sim.specs.State.{devicesOf, freshDevices, freshState}
 use Rattle.sim.specs.Tick.{ticks}
 use Rattle.sim.specs.Calls.{checkFresh, checkStep, checkTick, switched}
-use Rattle.records.specs.Record.{posAt, after, sliceOf, number, hasParts, mostRows}
+use Rattle.records.specs.Record.{posAt, after, sliceOf, number, hasParts, isSmall}
 
 -- ---- what a call is lent
 
@@ -25,10 +25,6 @@ blank = 195
 -- a buffer of n such bytes
 abbrev pub blanks : ℕ → Bytes
 blanks n = replicate n blank
-
--- a table of at most the most rows, or a state that has no more bytes than such a table
-abbrev pub isSmall : Bytes → Bool
-isSmall s = leb (length s) (mostRows * 32)
 
 -- ---- what a record says of the columns
 

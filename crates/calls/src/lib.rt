@@ -2,14 +2,14 @@
 // it tells of, and compares the answer and every byte of every buffer with the recorded ones.
 use columns::same;
 use records::after;
+use records::copied;
 use records::has_parts;
 use records::number;
 use records::pos_at;
 use records::slice_of;
 use world::row::rows;
 ghost use mathlib.Core.Path.{_≡_};
-ghost use Prim.Native.Nat.{_≤_, _<_};
-ghost use lib.ListN.{length, take};
+ghost use Prim.Native.Nat.{_<_};
 ghost use lib.IntN.{ℤ};
 ghost use Rattle.calls.specs.Calls.{columnsAgree, settleIn, settleRight, freshIn, freshRight, ticksIn, ticksRight, switchIn, switchRight};
 
@@ -26,20 +26,6 @@ fn columns_agree(r: &[u8], k: u8, signal: &[u8], weak: &[u8], strong: &[u8]) -> 
 {
     same(signal, slice_of(r, k))
         & (same(weak, slice_of(r, k + 1)) & same(strong, slice_of(r, k + 2)))
-}
-
-// A copy, for a call to change.
-fn copied(s: &[u8]) -> [u8; 2048]
-    requires { ⌜ length (now s) ≤ 2048 ⌝ }
-    ensures { λ a. ⌜ take (length (now (s .entry))) a ≡ now (s .entry) ⌝ }
-{
-    let mut a = [0u8; 2048];
-    let mut i = 0;
-    while i < s.len() {
-        a[i] = s[i];
-        i += 1;
-    }
-    a
 }
 
 fn settle_in(r: &[u8], signal: &mut [u8], weak: &mut [u8], strong: &mut [u8]) -> bool

@@ -5,7 +5,7 @@ use mathlib.Core.Bool.{Bool, _&&_}
 use Prim.Native.Nat.{ℕ, zero, suc, _+_, _*_}
 use lib.ListN.{length, getD, take, drop}
 use lib.Dec.{eqb, leb}
-use Rattle.columns.specs.Column.{Bytes}
+use Rattle.columns.specs.Column.{Bytes, row, tabulate}
 use Rattle.places.specs.declared.Pos.{Pos}
 use Rattle.world.specs.Rows.{posOf}
 
@@ -59,3 +59,15 @@ hasParts s slices rest = eqb (getD s 1 0) 0 && (leb (partsFrom s slices) (length
 -- the recorded tables have at most this many rows, where columns are lent
 abbrev pub mostRows : ℕ
 mostRows = 64
+
+-- the bytes of such a table
+abbrev pub mostBytes : ℕ
+mostBytes = mostRows * 32
+
+-- the slice has no more bytes than such a table
+abbrev pub isSmall : Bytes → Bool
+isSmall s = leb (length s) mostBytes
+
+-- so many bytes: those of the slice, and 0 past its end
+abbrev pub copied : Bytes → Bytes
+copied s = tabulate mostBytes (row s)

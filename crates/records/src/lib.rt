@@ -1,4 +1,4 @@
-// The parts of a record. Each function is total: a byte past the end is 0, and a slice past the end is cut off there.
+// The parts of a record, and a copy of one. Each function is total: a byte past the end is 0, and a slice past the end is cut off there.
 use columns::byte_at;
 use places::Pos;
 use world::row::pos_of;
@@ -6,7 +6,7 @@ ghost use mathlib.Core.Path.{_≡_};
 ghost use Prim.Native.Nat.{_<_};
 ghost use lib.ListN.{take, drop};
 ghost use lib.IntN.{ℤ};
-ghost use Rattle.records.specs.Record.{half, word, long, entry, posAt, partsFrom, after, sliceOf, number, hasParts};
+ghost use Rattle.records.specs.Record.{half, word, long, entry, posAt, partsFrom, after, sliceOf, number, hasParts, copied};
 
 // What stands from an index on.
 pub fn from(s: &[u8], at: usize) -> &[u8]
@@ -121,4 +121,17 @@ pub fn has_parts(s: &[u8], slices: u8, rest: usize) -> bool
     ensures { λ r. ⌜ r ≡ hasParts (now (s .entry)) slices rest ⌝ }
 {
     (byte_at(s, 1) == 0) & ((parts_from(s, slices) <= s.len()) & (after(s, slices).len() == rest))
+}
+
+// The bytes of a slice in an array for a table of the most rows, for a call to change.
+pub fn copied(s: &[u8]) -> [u8; 2048]
+    ensures { λ a. ⌜ a ≡ copied (now (s .entry)) ⌝ }
+{
+    let mut a = [0u8; 2048];
+    let mut i = 0;
+    while i < 2048 {
+        a[i] = byte_at(s, i);
+        i += 1;
+    }
+    a
 }

@@ -9,7 +9,7 @@ use records::pos_at;
 use records::slice_of;
 ghost use mathlib.Core.Path.{_≡_};
 ghost use lib.IntN.{ℤ};
-ghost use Rattle.vectors.specs.Operations.{traitsRight, shapeRight, findRight, supportsRight, propertiesRight, offsetRight, callRight, isRight};
+ghost use Rattle.vectors.specs.Operations.{traitsRight, shapeRight, findRight, supportsRight, propertiesRight, offsetRight, armsRight, transferRight, redrawRight, callRight, wireRight, isRight};
 
 fn traits_right(r: &[u8]) -> bool
     ensures { λ b. ⌜ b ≡ traitsRight (now (r .entry)) ⌝ }
@@ -64,6 +64,47 @@ fn offset_right(r: &[u8]) -> bool
         & answers::offset_agrees(pos_at(rest, 0), pos_at(rest, 12), pos_at(rest, 24))
 }
 
+fn arms_right(r: &[u8]) -> bool
+    ensures { λ b. ⌜ b ≡ armsRight (now (r .entry)) ⌝ }
+{
+    let rest = after(r, 2);
+    has_parts(r, 2, 15)
+        & answers::arms_agree(
+            slice_of(r, 0),
+            slice_of(r, 1),
+            pos_at(rest, 0),
+            byte_at(rest, 12),
+            byte_at(rest, 13),
+            byte_at(rest, 14),
+        )
+}
+
+fn transfer_right(r: &[u8]) -> bool
+    ensures { λ b. ⌜ b ≡ transferRight (now (r .entry)) ⌝ }
+{
+    let rest = after(r, 2);
+    has_parts(r, 2, 25)
+        & answers::transfer_agrees(
+            slice_of(r, 0),
+            slice_of(r, 1),
+            pos_at(rest, 0),
+            pos_at(rest, 12),
+            byte_at(rest, 24),
+        )
+}
+
+fn redraw_right(r: &[u8]) -> bool
+    ensures { λ b. ⌜ b ≡ redrawRight (now (r .entry)) ⌝ }
+{
+    has_parts(r, 3, 4)
+        & answers::redraw_agrees(
+            slice_of(r, 0),
+            slice_of(r, 1),
+            slice_of(r, 2),
+            number(r, 3, 0),
+        )
+}
+
 // The editor's calls. An operation that is not known is wrong.
 fn call_right(r: &[u8], operation: u8) -> bool
     ensures { λ b. ⌜ b ≡ callRight (now (r .entry)) operation ⌝ }
@@ -74,6 +115,18 @@ fn call_right(r: &[u8], operation: u8) -> bool
         12 => calls::ticks_right(r),
         13 => calls::switch_right(r),
         _ => false,
+    }
+}
+
+// Dust, or a call.
+fn wire_right(r: &[u8], operation: u8) -> bool
+    ensures { λ b. ⌜ b ≡ wireRight (now (r .entry)) operation ⌝ }
+{
+    match operation {
+        7 => arms_right(r),
+        8 => transfer_right(r),
+        9 => redraw_right(r),
+        _ => call_right(r, operation),
     }
 }
 
@@ -89,6 +142,6 @@ pub fn is_right(r: &[u8]) -> bool
         4 => supports_right(r),
         5 => properties_right(r),
         6 => offset_right(r),
-        _ => call_right(r, operation),
+        _ => wire_right(r, operation),
     }
 }

@@ -2,10 +2,11 @@
 use mathlib.Core.Path.{_≡_, sym, ap}
 use Prim.Native.Nat.{_≤_}
 use native.Mathlib.Omega.{arith}
-use lib.ListN.{length}
+use lib.ListN.{length, take}
 use borrow.Author.Tests.{lt-leb, le-leb}
 use Rattle.world.specs.Rows.{rows}
 use Rattle.records.specs.Record.{sliceOf}
+use Rattle.records.proofs.Copies.{front-copied}
 use Rattle.calls.specs.Calls.{switchRight}
 use Rattle.calls.proofs.Agreeing.{lent-length, lent-blank}
 use borrow.Author.Needs.{needs}
@@ -28,6 +29,10 @@ few c = omega arith
 copied-requires : tie.Need-copied-requires
 copied-requires c κs = search needs
 
+-- what is lent is a copy
+lent : (c : tie.After-copied) → take (length (c .before .before .before .slice-of .result .now)) (c .copied .result) ≡ c .before .before .before .slice-of .result .now
+lent c = rw (c .copied .ensures) (front-copied (c .before .before .before .slice-of .result .now) (c .before .before .if1 .left))
+
 has-parts-requires : tie.Need-has-parts-requires
 has-parts-requires c κs = search needs
 
@@ -35,7 +40,7 @@ array-borrow-prefix-table : tie.Need-array-borrow-prefix-table
 array-borrow-prefix-table c = search needs
 
 slice-aggregate-switch-in : tie.Need-slice-aggregate-switch-in
-slice-aggregate-switch-in c = sym (ap length (c .before .before .copied .ensures))
+slice-aggregate-switch-in c = sym (ap length (lent (c .before .before)))
 
 array-borrow-prefix-signal : tie.Need-array-borrow-prefix-signal
 array-borrow-prefix-signal c = search needs
@@ -66,7 +71,7 @@ returns-2 c =
     let t = sliceOf (counted .before .before .before .before .args .r .now) 1 in
     let is : counted .rows .result ≡ rows t = rw s at (counted .rows .ensures) in
     let small : length t ≤ 2048 = rw s at (counted .before .if1 .left) in
-    rw (le-leb _ 2048 small, ← lent-blank 64 (few counted) is, c .before .before .before .before .before .before .before .before .before .has-parts .ensures, c .before .before .before .before .switch-in .ensures, c .before .before .before .before .before .before .before .before .before .before .copied .ensures, s)
+    rw (le-leb _ 2048 small, ← lent-blank 64 (few counted) is, c .before .before .before .before .before .before .before .before .before .has-parts .ensures, c .before .before .before .before .switch-in .ensures, lent (c .before .before .before .before .before .before .before .before .before .before), s)
 
 pub switch-right-spec : {M : Type 1} → statement M
 switch-right-spec =

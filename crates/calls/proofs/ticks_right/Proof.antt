@@ -2,10 +2,11 @@
 use mathlib.Core.Path.{_≡_, sym, ap}
 use Prim.Native.Nat.{_≤_}
 use native.Mathlib.Omega.{arith}
-use lib.ListN.{length}
+use lib.ListN.{length, take}
 use borrow.Author.Tests.{lt-leb, le-leb}
 use Rattle.world.specs.Rows.{rows}
 use Rattle.records.specs.Record.{sliceOf}
+use Rattle.records.proofs.Copies.{front-copied}
 use Rattle.calls.specs.Calls.{ticksRight}
 use Rattle.calls.proofs.Agreeing.{lent-length, lent-blank}
 use borrow.Author.Needs.{needs}
@@ -35,6 +36,10 @@ few c = omega arith
 copied-requires : tie.Need-copied-requires
 copied-requires c κs = search needs
 
+-- what is lent is a copy
+lent : (c : tie.After-copied) → take (length (c .before .before .before .slice-of2 .result .now)) (c .copied .result) ≡ c .before .before .before .slice-of2 .result .now
+lent c = rw (c .copied .ensures) (front-copied (c .before .before .before .slice-of2 .result .now) (c .before .before .if2 .left))
+
 has-parts-requires : tie.Need-has-parts-requires
 has-parts-requires c κs = search needs
 
@@ -42,7 +47,7 @@ array-borrow-prefix-state : tie.Need-array-borrow-prefix-state
 array-borrow-prefix-state c = search needs
 
 slice-aggregate-ticks-in : tie.Need-slice-aggregate-ticks-in
-slice-aggregate-ticks-in c = sym (ap length (c .before .before .copied .ensures))
+slice-aggregate-ticks-in c = sym (ap length (lent (c .before .before)))
 
 array-borrow-prefix-signal : tie.Need-array-borrow-prefix-signal
 array-borrow-prefix-signal c = search needs
@@ -75,7 +80,7 @@ returns-3 c =
     let is : counted .rows .result ≡ rows (sliceOf r 1) = rw s at (counted .rows .ensures) in
     let small : length (sliceOf r 1) ≤ 2048 = rw s at (counted .before .before .before .if1 .left) in
     let short : length (sliceOf r 2) ≤ 2048 = rw state at (counted .before .if2 .left) in
-    rw (le-leb _ 2048 small, le-leb _ 2048 short, ← lent-blank 64 (few counted) is, c .before .before .before .before .before .before .before .before .before .has-parts .ensures, c .before .before .before .before .ticks-in .ensures, c .before .before .before .before .before .before .before .before .before .before .copied .ensures, state)
+    rw (le-leb _ 2048 small, le-leb _ 2048 short, ← lent-blank 64 (few counted) is, c .before .before .before .before .before .before .before .before .before .has-parts .ensures, c .before .before .before .before .ticks-in .ensures, lent (c .before .before .before .before .before .before .before .before .before .before), state)
 
 pub ticks-right-spec : {M : Type 1} → statement M
 ticks-right-spec =

@@ -26,8 +26,8 @@ properties-right-requires c κs = search needs
 offset-right-requires : tie.Need-offset-right-requires
 offset-right-requires c κs = search needs
 
-call-right-requires : tie.Need-call-right-requires
-call-right-requires c κs = search needs
+wire-right-requires : tie.Need-wire-right-requires
+wire-right-requires c κs = search needs
 
 returns : tie.Need-returns
 unfolding isRight
@@ -58,7 +58,7 @@ unfolding isRight
 returns-7 c =
     let none = c .before .match .rest in
     let o = c .before .before .byte-at in
-    rw (← o .ensures, ne-eqb (o .result) 1 (none .0 .0 .0 .0 .0 .1), ne-eqb (o .result) 2 (none .0 .0 .0 .0 .1), ne-eqb (o .result) 3 (none .0 .0 .0 .1), ne-eqb (o .result) 4 (none .0 .0 .1), ne-eqb (o .result) 5 (none .0 .1), ne-eqb (o .result) 6 (none .1)) (c .call-right .ensures)
+    rw (← o .ensures, ne-eqb (o .result) 1 (none .0 .0 .0 .0 .0 .1), ne-eqb (o .result) 2 (none .0 .0 .0 .0 .1), ne-eqb (o .result) 3 (none .0 .0 .0 .1), ne-eqb (o .result) 4 (none .0 .0 .1), ne-eqb (o .result) 5 (none .0 .1), ne-eqb (o .result) 6 (none .1)) (c .wire-right .ensures)
 
 pub is-right-spec : {M : Type 1} → statement M
 is-right-spec =
@@ -71,7 +71,7 @@ is-right-spec =
     supports-right-requires
     properties-right-requires
     offset-right-requires
-    call-right-requires
+    wire-right-requires
     returns
     returns-2
     returns-3

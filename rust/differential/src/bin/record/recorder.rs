@@ -1,6 +1,7 @@
 mod calls;
 mod inner;
 mod record;
+mod wire;
 
 use std::collections::BTreeMap;
 use std::io::{self, Write};
@@ -16,6 +17,7 @@ const MOST_ROWS: usize = 64;
 pub fn write(seed: u64) -> io::Result<()> {
     let random = &mut Random::new(seed);
     let mut records = inner::records(seed, random);
+    records.extend(wire::records(seed));
     records.extend(calls::records(seed, random));
     let mut counts = BTreeMap::<u8, usize>::new();
     let mut out = io::stdout().lock();
