@@ -8,7 +8,7 @@ use lib.ListN.{length, drop, length-drop}
 use lib.Seq.{drop-drop}
 use borrow.Author.Tests.{leb-true}
 use Rattle.columns.specs.Column.{Bytes}
-use Rattle.vectors.specs.Record.{word}
+use Rattle.records.specs.Record.{word}
 use Rattle.vectors.specs.Operations.{isRight}
 use Rattle.vectors.specs.Replay.{startsWhole, firstRecord, laterRecords, countIf, ended, tallyFrom, tallyOf}
 

@@ -1,5 +1,3 @@
--- What a right answer is, and the tally of a file of them.
-pub mod Record
-pub mod Answers
+-- What a right record is, and the tally of a file of them.
 pub mod Operations
 pub mod Replay

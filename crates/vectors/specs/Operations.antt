@@ -2,17 +2,12 @@
 -- Assumes nothing.
 use mathlib.Core.Bool.{Bool, false, cond, _&&_}
 use Prim.Native.Nat.{ℕ}
-use Rattle.places.specs.declared.Pos.{Pos}
 use lib.ListN.{getD, drop}
 use lib.Dec.{eqb}
 use Rattle.columns.specs.Column.{Bytes}
-use Rattle.world.specs.Rows.{posOf}
-use Rattle.vectors.specs.Record.{word, long, after, sliceOf, hasParts}
-use Rattle.vectors.specs.Answers.{traitsAgree, shapeAgrees, findAgrees, supportsAgree, propertiesAgree, offsetAgrees}
-
--- a position, laid out as in a row of a table
-abbrev pub posAt : Bytes → ℕ → Pos
-posAt s at = posOf (drop at s) 0
+use Rattle.records.specs.Record.{long, posAt, after, sliceOf, number, hasParts}
+use Rattle.calls.specs.Calls.{settleRight, freshRight, ticksRight, switchRight}
+use Rattle.answers.specs.Answers.{traitsAgree, shapeAgrees, findAgrees, supportsAgree, propertiesAgree, offsetAgrees, armsAgree, transferAgrees, redrawAgrees}
 
 module _ (r : Bytes) where
   -- 1: profile, table, traits
@@ -31,7 +26,7 @@ module _ (r : Bytes) where
 
   -- 4: profile, table, list; answer
   abbrev pub supportsRight : Bool
-  supportsRight = hasParts r 3 4 && supportsAgree (sliceOf r 0) (sliceOf r 1) (sliceOf r 2) (word (after r 3))
+  supportsRight = hasParts r 3 4 && supportsAgree (sliceOf r 0) (sliceOf r 1) (sliceOf r 2) (number r 3 0)
 
   -- 5: profile; properties
   abbrev pub propertiesRight : Bool
@@ -41,14 +36,42 @@ module _ (r : Bytes) where
   abbrev pub offsetRight : Bool
   offsetRight = hasParts r 0 36 && offsetAgrees (posAt (after r 0) 0) (posAt (after r 0) 12) (posAt (after r 0) 24)
 
-  -- the answer of an operation that is not known is wrong
+  -- 7: profile, table; position, facing, inferred, resolved
+  abbrev pub armsRight : Bool
+  armsRight =
+      hasParts r 2 15
+      && armsAgree (sliceOf r 0) (sliceOf r 1) (posAt (after r 2) 0) (getD (after r 2) 12 0) (getD (after r 2) 13 0) (getD (after r 2) 14 0)
+
+  -- 8: profile, table; position, position, transfer
+  abbrev pub transferRight : Bool
+  transferRight =
+      hasParts r 2 25
+      && transferAgrees (sliceOf r 0) (sliceOf r 1) (posAt (after r 2) 0) (posAt (after r 2) 12) (getD (after r 2) 24 0)
+
+  -- 9: profile, table before, table after; answer
+  abbrev pub redrawRight : Bool
+  redrawRight = hasParts r 3 4 && redrawAgrees (sliceOf r 0) (sliceOf r 1) (sliceOf r 2) (number r 3 0)
+
+  -- 10 to 13: the editor's calls. The answer of an operation that is not known is wrong
+  abbrev pub callRight : ℕ → Bool
+  callRight operation =
+      cond (eqb operation 10) (settleRight r)
+      (cond (eqb operation 11) (freshRight r)
+      (cond (eqb operation 12) (ticksRight r) (cond (eqb operation 13) (switchRight r) false)))
+
+  -- 7 to 9: dust
+  abbrev pub wireRight : ℕ → Bool
+  wireRight operation =
+      cond (eqb operation 7) armsRight
+      (cond (eqb operation 8) transferRight (cond (eqb operation 9) redrawRight (callRight operation)))
+
   abbrev pub rightBy : ℕ → Bool
   rightBy operation =
       cond (eqb operation 1) traitsRight
       (cond (eqb operation 2) shapeRight
       (cond (eqb operation 3) findRight
       (cond (eqb operation 4) supportsRight
-      (cond (eqb operation 5) propertiesRight (cond (eqb operation 6) offsetRight false)))))
+      (cond (eqb operation 5) propertiesRight (cond (eqb operation 6) offsetRight (wireRight operation))))))
 
   -- the first byte is the operation
   unfoldable pub isRight : Bool

@@ -6,7 +6,7 @@ use lib.ListN.{length, take, drop}
 use lib.Dec.{eqb, leb}
 use Rattle.columns.specs.Column.{Bytes}
 use Rattle.vectors.specs.declared.replay.Tally.{Tally}
-use Rattle.vectors.specs.Record.{word}
+use Rattle.records.specs.Record.{word}
 use Rattle.vectors.specs.Operations.{isRight}
 
 -- a whole record stands at the front

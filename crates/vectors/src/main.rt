@@ -1,7 +1,5 @@
 // Replays the recorded answers of the original Rust, which stand in the file `vectors` as FORMAT.md says.
-mod answers;
 mod operations;
-mod record;
 mod replay;
 
 use libc::STDOUT_FILENO;

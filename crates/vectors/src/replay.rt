@@ -1,11 +1,11 @@
 // The replay of a file's records.
 use crate::operations::is_right;
-use crate::record::from;
-use crate::record::front;
-use crate::record::word;
+use records::from;
+use records::front;
+use records::word;
 ghost use mathlib.Core.Path.{_≡_};
 ghost use Prim.Native.Nat.{_+_, _<_, _^_};
-ghost use Rattle.vectors.specs.Record.{word as Record·word};
+ghost use Rattle.records.specs.Record.{word as Record·word};
 ghost use Rattle.vectors.specs.Operations.{isRight};
 ghost use Rattle.vectors.specs.Replay.{startsWhole, firstRecord, countIf, tallyOf};
 

@@ -20,7 +20,7 @@ use crate::table::{Position, ROW_BYTES};
 
 pub use alterations::ALTERATIONS;
 pub use edges::{edges, single_bytes};
-pub use queries::{fresh_devices, queries, settle_at_every_limit};
+pub use queries::{any_devices, fresh_devices, queries, settle_at_every_limit};
 pub use runs::{OriginalRun, ProvedRun, Step, steps};
 use state::unpack;
 pub use state::{device_outputs, pack};
@@ -72,6 +72,7 @@ pub const WEAK: usize = 4;
 pub const STRONG: usize = 5;
 
 const GUARD: u8 = 0x5a;
+/// Every byte of a buffer that a call is to fill, before it.
 const UNTOUCHED: u8 = 0xc3;
 
 /// What a call is lent.

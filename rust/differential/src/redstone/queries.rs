@@ -85,7 +85,8 @@ pub fn fresh_devices(oracle: &Oracle) -> Vec<u8> {
     oracle.rows.iter().map(device).collect()
 }
 
-fn any_devices(random: &mut Random, rows: &[Row]) -> Vec<u8> {
+/// Any valid device column.
+pub fn any_devices(random: &mut Random, rows: &[Row]) -> Vec<u8> {
     rows.iter().map(|row| any_device(random, row.kind)).collect()
 }
 

@@ -26,6 +26,9 @@ properties-right-requires c κs = search needs
 offset-right-requires : tie.Need-offset-right-requires
 offset-right-requires c κs = search needs
 
+wire-right-requires : tie.Need-wire-right-requires
+wire-right-requires c κs = search needs
+
 returns : tie.Need-returns
 unfolding isRight
 returns c = rw (← c .before .before .byte-at .ensures, c .before .match .keys1) (c .traits-right .ensures)
@@ -53,9 +56,9 @@ returns-6 c = rw (← c .before .before .byte-at .ensures, c .before .match .key
 returns-7 : tie.Need-returns-7
 unfolding isRight
 returns-7 c =
-    let none = c .match .rest in
-    let o = c .before .byte-at in
-    rw (← o .ensures, ne-eqb (o .result) 1 (none .0 .0 .0 .0 .0 .1), ne-eqb (o .result) 2 (none .0 .0 .0 .0 .1), ne-eqb (o .result) 3 (none .0 .0 .0 .1), ne-eqb (o .result) 4 (none .0 .0 .1), ne-eqb (o .result) 5 (none .0 .1), ne-eqb (o .result) 6 (none .1))
+    let none = c .before .match .rest in
+    let o = c .before .before .byte-at in
+    rw (← o .ensures, ne-eqb (o .result) 1 (none .0 .0 .0 .0 .0 .1), ne-eqb (o .result) 2 (none .0 .0 .0 .0 .1), ne-eqb (o .result) 3 (none .0 .0 .0 .1), ne-eqb (o .result) 4 (none .0 .0 .1), ne-eqb (o .result) 5 (none .0 .1), ne-eqb (o .result) 6 (none .1)) (c .wire-right .ensures)
 
 pub is-right-spec : {M : Type 1} → statement M
 is-right-spec =
@@ -68,6 +71,7 @@ is-right-spec =
     supports-right-requires
     properties-right-requires
     offset-right-requires
+    wire-right-requires
     returns
     returns-2
     returns-3

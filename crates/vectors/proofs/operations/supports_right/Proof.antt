@@ -3,12 +3,6 @@ use borrow.Author.Needs.{needs}
 use Rattle.vectors.proofs.operations.supports_right.Statement.{statement}
 use Rattle.vectors.proofs.operations.supports_right.Tie as tie
 
-after-requires : tie.Need-after-requires
-after-requires c κs = search needs
-
-word-requires : tie.Need-word-requires
-word-requires c κs = search needs
-
 has-parts-requires : tie.Need-has-parts-requires
 has-parts-requires c κs = search needs
 
@@ -21,6 +15,9 @@ slice-of-requires-2 c κs = search needs
 slice-of-requires-3 : tie.Need-slice-of-requires-3
 slice-of-requires-3 c κs = search needs
 
+number-requires : tie.Need-number-requires
+number-requires c κs = search needs
+
 supports-agree-requires : tie.Need-supports-agree-requires
 supports-agree-requires c κs = search needs
 
@@ -31,11 +28,10 @@ pub supports-right-spec : {M : Type 1} → statement M
 supports-right-spec =
     tie.close
     (tie.spec
-    after-requires
-    word-requires
     has-parts-requires
     slice-of-requires
     slice-of-requires-2
     slice-of-requires-3
+    number-requires
     supports-agree-requires
     returns)

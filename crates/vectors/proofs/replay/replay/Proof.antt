@@ -6,7 +6,7 @@ use Prim.Native.Nat.{_+_, _-_, _≤_}
 use native.Mathlib.Omega.{arith}
 use lib.ListN.{length, drop}
 use borrow.Author.Needs.{needs}
-use Rattle.vectors.specs.Record.{word}
+use Rattle.records.specs.Record.{word}
 use Rattle.vectors.specs.Operations.{isRight}
 use Rattle.vectors.specs.Replay.{startsWhole, firstRecord, countIf}
 use Rattle.vectors.proofs.Tallies.{count-most, Replayed, replayed-none, whole-fits, replayed-more, replayed-all}

@@ -1,0 +1,101 @@
+-- Whether the proved functions answer as the original did, by operation, of the parts of a record.
+-- Assumes nothing.
+use mathlib.Core.Bool.{Bool, cond, _&&_}
+use Prim.Native.Nat.{ℕ, _*_, _/_, _%_}
+use lib.ListN.{length, getD, drop, replicate}
+use lib.Dec.{eqb, leb, ltb}
+use Rattle.columns.specs.Column.{Bytes, Column, row, atFront, same}
+use Rattle.columns.specs.First.{allBelow}
+use Rattle.places.specs.declared.Pos.{Pos}
+use Rattle.places.specs.Places.{samePos, offset}
+use Rattle.world.specs.Rows.{rows, posOf}
+use Rattle.world.specs.Find.{find, kindAt}
+use Rattle.world.specs.Traits.{traits}
+use Rattle.world.specs.Names.{shapeOfName}
+use Rattle.refusals.specs.Check.{checkInput, answerOf, written}
+use Rattle.supports.specs.Supports.{supportIssues, checkSupports}
+use Rattle.wire.specs.Arms.{inferWireConnection, resolvedWireConnection}
+use Rattle.wire.specs.Transfer.{dustTransfer}
+use Rattle.redraw.specs.Redraw.{updateWireShapes}
+use Rattle.probe.specs.Numbers.{rowNumber, kindProperties, traitsNumber, knownFacing, transferNumber}
+use Rattle.records.specs.Record.{entry, mostRows, isSmall}
+
+-- ---- traits of every row
+
+-- row i has the traits whose number is entry i
+abbrev pub traitAgrees : Bytes → Bytes → Bytes → ℕ → Bool
+traitAgrees p t want i = eqb (traitsNumber (traits p t i)) (entry want i)
+
+unfoldable pub traitsAgree : Bytes → Bytes → Bytes → Bool
+traitsAgree p t want = eqb (length want) (rows t * 2) && allBelow (traitAgrees p t want) (rows t)
+
+-- ---- the shape of a name
+
+unfoldable pub shapeAgrees : Bytes → Bytes → Bytes → ℕ → Bool
+shapeAgrees name type half shape = eqb (shapeOfName name type half) shape
+
+-- ---- look-up
+
+unfoldable pub findAgrees : Bytes → Pos → ℕ → ℕ → Bool
+findAgrees t q number kind = eqb (rowNumber (find t q)) number && eqb (kindAt t q) kind
+
+-- ---- the support list
+
+-- what the column is filled with before the call; no row has this number
+abbrev pub untouched : ℕ
+untouched = 65535
+
+-- entry i of a column that has the list at its front and is untouched behind it
+abbrev pub listed : Bytes → ℕ → ℕ
+listed list i = cond (ltb i (length list / 2)) (entry list i) untouched
+
+abbrev pub entryAgrees : Column → Bytes → ℕ → Bool
+entryAgrees column list i = eqb (row column i) (listed list i)
+
+-- the whole column: the list and what it left untouched
+unfoldable pub isListed : Column → Bytes → Bool
+isListed column list =
+    eqb (length list % 2) 0 && (leb (length list / 2) (length column) && allBelow (entryAgrees column list) (length column))
+
+-- the answer and the column of a call that was lent this column
+unfoldable pub supportsAgreeIn : Column → Bytes → Bytes → Bytes → ℕ → Bool
+supportsAgreeIn column p t list answer =
+    let checked = checkSupports p t (length column) in
+    eqb (answerOf checked (length (supportIssues p t))) answer
+    && isListed (written checked column (atFront (supportIssues p t) column)) list
+
+unfoldable pub supportsAgree : Bytes → Bytes → Bytes → ℕ → Bool
+supportsAgree p t list answer = leb (rows t) mostRows && supportsAgreeIn (replicate (rows t) untouched) p t list answer
+
+-- ---- properties by kind
+
+abbrev pub propertyAgrees : Bytes → Bytes → ℕ → Bool
+propertyAgrees p want k = eqb (kindProperties p k) (getD want k 0)
+
+unfoldable pub propertiesAgree : Bytes → Bytes → Bool
+propertiesAgree p want = allBelow (propertyAgrees p want) 13
+
+-- ---- positions
+
+unfoldable pub offsetAgrees : Pos → Pos → Pos → Bool
+offsetAgrees q d want = samePos (offset q (d .x) (d .y) (d .z)) want
+
+-- ---- dust
+
+-- the arm at a position along a facing, as it is inferred and as it is resolved
+unfoldable pub armsAgree : Bytes → Bytes → Pos → ℕ → ℕ → ℕ → Bool
+armsAgree p t q facing inferred resolved =
+    eqb (inferWireConnection p t q (knownFacing facing)) inferred
+    && eqb (resolvedWireConnection p t q (knownFacing facing)) resolved
+
+-- the transfer between two positions
+unfoldable pub transferAgrees : Bytes → Bytes → Pos → Pos → ℕ → Bool
+transferAgrees p t q sink number = eqb (transferNumber (dustTransfer p t q sink)) number
+
+-- the answer and the table of a call that was lent the table t
+unfoldable pub redrawAgreesIn : Bytes → Bytes → Bytes → ℕ → Bool
+redrawAgreesIn p t want answer =
+    eqb (answerOf (checkInput p t) 0) answer && same (written (checkInput p t) t (updateWireShapes p t)) want
+
+unfoldable pub redrawAgrees : Bytes → Bytes → Bytes → ℕ → Bool
+redrawAgrees p t want answer = isSmall t && redrawAgreesIn p t want answer

@@ -1,0 +1,2 @@
+-- What a right answer is.
+pub mod Answers

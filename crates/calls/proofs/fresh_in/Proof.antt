@@ -1,0 +1,60 @@
+-- `calls::fresh_in` meets its contract. Assumes nothing.
+use Rattle.calls.proofs.Agreeing.{fresh-agrees}
+use borrow.Author.Needs.{needs}
+use Rattle.calls.proofs.fresh_in.Statement.{statement}
+use Rattle.calls.proofs.fresh_in.Tie as tie
+
+slice-of-requires : tie.Need-slice-of-requires
+slice-of-requires c κs = search needs
+
+slice-of-requires-2 : tie.Need-slice-of-requires-2
+slice-of-requires-2 c κs = search needs
+
+redstone-fresh-requires : tie.Need-redstone-fresh-requires
+redstone-fresh-requires c κs = search needs
+
+number-requires : tie.Need-number-requires
+number-requires c κs = search needs
+
+slice-of-requires-3 : tie.Need-slice-of-requires-3
+slice-of-requires-3 c κs = search needs
+
+same-requires : tie.Need-same-requires
+same-requires c κs = search needs
+
+columns-agree-requires : tie.Need-columns-agree-requires
+columns-agree-requires c κs = search needs
+
+same-length : tie.Need-same-length
+same-length c = search needs
+
+same-length-2 : tie.Need-same-length-2
+same-length-2 c = search needs
+
+same-length-3 : tie.Need-same-length-3
+same-length-3 c = search needs
+
+same-length-4 : tie.Need-same-length-4
+same-length-4 c = search needs
+
+returns : tie.Need-returns
+returns c =
+    let called = rw (c .before .before .before .before .before .before .before .before .before .before .before .before .before .before .before .before .before .before .before .before .before .before .slice-of .ensures, c .before .before .before .before .before .before .before .before .before .before .before .before .before .before .before .before .before .before .before .before .before .slice-of2 .ensures) at (c .before .before .before .before .before .before .before .before .before .before .before .before .before .before .before .before .redstone-fresh .ensures) in
+    rw (c .columns-agree .ensures, c .before .before .before .before .same .ensures, c .before .before .before .before .before .slice-of3 .ensures, c .before .before .before .before .before .before .before .number .ensures) (fresh-agrees (c .before .before .before .before .before .before .before .before .before .before .before .before .before .before .before .before .before .before .before .before .before .before .before .before .before .before .before .before .args .r .now) called)
+
+pub fresh-in-spec : {M : Type 1} → statement M
+fresh-in-spec =
+    tie.close
+    (tie.spec
+    slice-of-requires
+    slice-of-requires-2
+    redstone-fresh-requires
+    number-requires
+    slice-of-requires-3
+    same-requires
+    columns-agree-requires
+    same-length
+    same-length-2
+    same-length-3
+    same-length-4
+    returns)

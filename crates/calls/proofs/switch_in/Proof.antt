@@ -1,0 +1,79 @@
+-- `calls::switch_in` meets its contract: a coordinate that is handed on is read back from its bits. Assumes nothing.
+use mir.Syntax.{w32}
+use mir.Val.{SFits}
+use Rattle.places.proofs.Signs.{back32}
+use Rattle.calls.proofs.Agreeing.{switch-agrees}
+use borrow.Author.Needs.{needs}
+use Rattle.calls.proofs.switch_in.Statement.{statement}
+use Rattle.calls.proofs.switch_in.Tie as tie
+
+after-requires : tie.Need-after-requires
+after-requires c κs = search needs
+
+pos-at-requires : tie.Need-pos-at-requires
+pos-at-requires c κs = search needs
+
+slice-of-requires : tie.Need-slice-of-requires
+slice-of-requires c κs = search needs
+
+slice-of-requires-2 : tie.Need-slice-of-requires-2
+slice-of-requires-2 c κs = search needs
+
+number-requires : tie.Need-number-requires
+number-requires c κs = search needs
+
+redstone-switch-requires : tie.Need-redstone-switch-requires
+redstone-switch-requires c κs = search needs
+
+number-requires-2 : tie.Need-number-requires-2
+number-requires-2 c κs = search needs
+
+slice-of-requires-3 : tie.Need-slice-of-requires-3
+slice-of-requires-3 c κs = search needs
+
+same-requires : tie.Need-same-requires
+same-requires c κs = search needs
+
+columns-agree-requires : tie.Need-columns-agree-requires
+columns-agree-requires c κs = search needs
+
+same-length : tie.Need-same-length
+same-length c = search needs
+
+same-length-2 : tie.Need-same-length-2
+same-length-2 c = search needs
+
+same-length-3 : tie.Need-same-length-3
+same-length-3 c = search needs
+
+same-length-4 : tie.Need-same-length-4
+same-length-4 c = search needs
+
+returns : tie.Need-returns
+returns c =
+    let q = c .before .before .before .before .before .before .before .before .before .before .before .before .before .before .before .before .before .before .before .before .before .before .before .before .before .before .before .pos-at .result in
+    let fx : SFits w32 (q .x) = search needs in
+    let fy : SFits w32 (q .y) = search needs in
+    let fz : SFits w32 (q .z) = search needs in
+    let called = rw (c .before .before .before .before .before .before .before .before .before .before .before .before .before .before .before .before .before .before .before .before .before .before .before .before .before .before .slice-of .ensures, c .before .before .before .before .before .before .before .before .before .before .before .before .before .before .before .before .before .before .before .before .before .before .before .before .slice-of2 .ensures, c .before .before .before .before .before .before .before .before .before .before .before .before .before .before .before .before .before .before .before .before .before .before .before .number .ensures, back32 (q .x) fx, back32 (q .y) fy, back32 (q .z) fz, c .before .before .before .before .before .before .before .before .before .before .before .before .before .before .before .before .before .before .before .before .before .before .before .before .before .before .before .pos-at .ensures, c .before .before .before .before .before .before .before .before .before .before .before .before .before .before .before .before .before .before .before .before .before .before .before .before .before .before .before .before .after .ensures) at (c .before .before .before .before .before .before .before .before .before .before .before .before .before .before .before .before .redstone-switch .ensures) in
+    rw (c .columns-agree .ensures, c .before .before .before .before .same .ensures, c .before .before .before .before .before .slice-of3 .ensures, c .before .before .before .before .before .before .before .number2 .ensures) (switch-agrees (c .before .before .before .before .before .before .before .before .before .before .before .before .before .before .before .before .before .before .before .before .before .before .before .before .before .before .before .before .before .before .before .before .before .before .args .r .now) called)
+
+pub switch-in-spec : {M : Type 1} → statement M
+switch-in-spec =
+    tie.close
+    (tie.spec
+    after-requires
+    pos-at-requires
+    slice-of-requires
+    slice-of-requires-2
+    number-requires
+    redstone-switch-requires
+    number-requires-2
+    slice-of-requires-3
+    same-requires
+    columns-agree-requires
+    same-length
+    same-length-2
+    same-length-3
+    same-length-4
+    returns)

@@ -1,0 +1,2 @@
+-- What a right record of a call is.
+pub mod Calls

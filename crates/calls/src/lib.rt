@@ -1,0 +1,204 @@
+// Whether the editor's four calls answer and write as the original did. Each function takes a record of its operation, makes the call that
+// it tells of, and compares the answer and every byte of every buffer with the recorded ones.
+use columns::same;
+use records::after;
+use records::copied;
+use records::has_parts;
+use records::number;
+use records::pos_at;
+use records::slice_of;
+use world::row::rows;
+ghost use mathlib.Core.Path.{_≡_};
+ghost use Prim.Native.Nat.{_<_};
+ghost use lib.IntN.{ℤ};
+ghost use Rattle.calls.specs.Calls.{columnsAgree, settleIn, settleRight, freshIn, freshRight, ticksIn, ticksRight, switchIn, switchRight};
+
+// What every byte of a buffer that a call is to fill is before it.
+const BLANK: u8 = 195;
+
+// The bytes of a table of the most rows.
+const MOST: usize = 2048;
+
+// Whether the columns are slices k to k + 2.
+fn columns_agree(r: &[u8], k: u8, signal: &[u8], weak: &[u8], strong: &[u8]) -> bool
+    requires { ⌜ k < 8 ⌝ }
+    ensures { λ b. ⌜ b ≡ columnsAgree (now (r .entry)) k (now (signal .entry)) (now (weak .entry)) (now (strong .entry)) ⌝ }
+{
+    same(signal, slice_of(r, k))
+        & (same(weak, slice_of(r, k + 1)) & same(strong, slice_of(r, k + 2)))
+}
+
+fn settle_in(r: &[u8], signal: &mut [u8], weak: &mut [u8], strong: &mut [u8]) -> bool
+    ensures { λ b. ⌜ b ≡ settleIn (now (r .entry)) (now (signal .entry)) (now (weak .entry)) (now (strong .entry)) ⌝ }
+{
+    let answered = redstone::redstone_settle(
+        slice_of(r, 0),
+        slice_of(r, 1),
+        slice_of(r, 2),
+        number(r, 6, 0),
+        signal,
+        weak,
+        strong,
+    );
+    (answered == number(r, 6, 4)) & columns_agree(r, 3, signal, weak, strong)
+}
+
+// Settling with a column of devices, within a limit of rounds.
+pub fn settle_right(r: &[u8]) -> bool
+    ensures { λ b. ⌜ b ≡ settleRight (now (r .entry)) ⌝ }
+{
+    let table = slice_of(r, 1);
+    if MOST < table.len() {
+        return false;
+    }
+    let n = rows(table);
+    let mut signal = [BLANK; 64];
+    let mut weak = [BLANK; 64];
+    let mut strong = [BLANK; 64];
+    has_parts(r, 6, 8) & settle_in(r, &mut signal[..n], &mut weak[..n], &mut strong[..n])
+}
+
+fn fresh_in(
+    r: &[u8],
+    state: &mut [u8],
+    signal: &mut [u8],
+    weak: &mut [u8],
+    strong: &mut [u8],
+) -> bool
+    ensures { λ b. ⌜ b ≡ freshIn (now (r .entry)) (now (state .entry)) (now (signal .entry)) (now (weak .entry)) (now (strong .entry)) ⌝ }
+{
+    let answered = redstone::redstone_fresh(
+        slice_of(r, 0),
+        slice_of(r, 1),
+        state,
+        signal,
+        weak,
+        strong,
+    );
+    (answered == number(r, 6, 0))
+        & (same(state, slice_of(r, 2)) & columns_agree(r, 3, signal, weak, strong))
+}
+
+// The fresh state of a table.
+pub fn fresh_right(r: &[u8]) -> bool
+    ensures { λ b. ⌜ b ≡ freshRight (now (r .entry)) ⌝ }
+{
+    let table = slice_of(r, 1);
+    if MOST < table.len() {
+        return false;
+    }
+    let n = rows(table);
+    let mut state = [BLANK; 1024];
+    let mut signal = [BLANK; 64];
+    let mut weak = [BLANK; 64];
+    let mut strong = [BLANK; 64];
+    has_parts(r, 6, 4)
+        & fresh_in(
+            r,
+            &mut state[..n * 16],
+            &mut signal[..n],
+            &mut weak[..n],
+            &mut strong[..n],
+        )
+}
+
+fn ticks_in(
+    r: &[u8],
+    state: &mut [u8],
+    signal: &mut [u8],
+    weak: &mut [u8],
+    strong: &mut [u8],
+) -> bool
+    ensures { λ b. ⌜ b ≡ ticksIn (now (r .entry)) (now (state .entry)) (now (signal .entry)) (now (weak .entry)) (now (strong .entry)) ⌝ }
+{
+    let answered = redstone::redstone_tick(
+        slice_of(r, 0),
+        slice_of(r, 1),
+        state,
+        number(r, 7, 0),
+        number(r, 7, 4),
+        signal,
+        weak,
+        strong,
+    );
+    (answered == number(r, 7, 8))
+        & (same(state, slice_of(r, 3)) & columns_agree(r, 4, signal, weak, strong))
+}
+
+// So many ticks from a state.
+pub fn ticks_right(r: &[u8]) -> bool
+    ensures { λ b. ⌜ b ≡ ticksRight (now (r .entry)) ⌝ }
+{
+    let table = slice_of(r, 1);
+    if MOST < table.len() {
+        return false;
+    }
+    let before = slice_of(r, 2);
+    let bytes = before.len();
+    if MOST < bytes {
+        return false;
+    }
+    let n = rows(table);
+    let mut state = copied(before);
+    let mut signal = [BLANK; 64];
+    let mut weak = [BLANK; 64];
+    let mut strong = [BLANK; 64];
+    has_parts(r, 7, 12)
+        & ticks_in(
+            r,
+            &mut state[..bytes],
+            &mut signal[..n],
+            &mut weak[..n],
+            &mut strong[..n],
+        )
+}
+
+fn switch_in(
+    r: &[u8],
+    table: &mut [u8],
+    signal: &mut [u8],
+    weak: &mut [u8],
+    strong: &mut [u8],
+) -> bool
+    ensures { λ b. ⌜ b ≡ switchIn (now (r .entry)) (now (table .entry)) (now (signal .entry)) (now (weak .entry)) (now (strong .entry)) ⌝ }
+{
+    let q = pos_at(after(r, 7), 0);
+    let answered = redstone::redstone_switch(
+        slice_of(r, 0),
+        table,
+        slice_of(r, 3),
+        q.x,
+        q.y,
+        q.z,
+        number(r, 7, 12),
+        signal,
+        weak,
+        strong,
+    );
+    (answered == number(r, 7, 16))
+        & (same(table, slice_of(r, 2)) & columns_agree(r, 4, signal, weak, strong))
+}
+
+// A switch at a position.
+pub fn switch_right(r: &[u8]) -> bool
+    ensures { λ b. ⌜ b ≡ switchRight (now (r .entry)) ⌝ }
+{
+    let before = slice_of(r, 1);
+    let bytes = before.len();
+    if MOST < bytes {
+        return false;
+    }
+    let n = rows(before);
+    let mut table = copied(before);
+    let mut signal = [BLANK; 64];
+    let mut weak = [BLANK; 64];
+    let mut strong = [BLANK; 64];
+    has_parts(r, 7, 20)
+        & switch_in(
+            r,
+            &mut table[..bytes],
+            &mut signal[..n],
+            &mut weak[..n],
+            &mut strong[..n],
+        )
+}

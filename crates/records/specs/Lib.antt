@@ -1,0 +1,2 @@
+-- The parts of a record.
+pub mod Record

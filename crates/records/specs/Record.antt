@@ -1,0 +1,73 @@
+-- The parts of a record, as FORMAT.md lays them out: an operation, a zero, slices and then numbers.
+-- A byte past the end is read as 0.
+-- Assumes nothing.
+use mathlib.Core.Bool.{Bool, _&&_}
+use Prim.Native.Nat.{ℕ, zero, suc, _+_, _*_}
+use lib.ListN.{length, getD, take, drop}
+use lib.Dec.{eqb, leb}
+use Rattle.columns.specs.Column.{Bytes, row, tabulate}
+use Rattle.places.specs.declared.Pos.{Pos}
+use Rattle.world.specs.Rows.{posOf}
+
+-- ---- the number at the front, low byte first
+
+-- of two bytes
+abbrev pub half : Bytes → ℕ
+half s = getD s 0 0 + getD s 1 0 * 256
+
+-- of four bytes
+abbrev pub word : Bytes → ℕ
+word s = getD s 0 0 + getD s 1 0 * 256 + getD s 2 0 * 65536 + getD s 3 0 * 16777216
+
+-- of eight bytes
+abbrev pub long : Bytes → ℕ
+long s = word s + word (drop 4 s) * 4294967296
+
+-- entry i of a list of numbers of two bytes
+abbrev pub entry : Bytes → ℕ → ℕ
+entry s i = half (drop (i * 2) s)
+
+-- the position that stands at an index, laid out as in a row of a table
+abbrev pub posAt : Bytes → ℕ → Pos
+posAt s at = posOf (drop at s) 0
+
+-- ---- slices: two bytes of length, and then the bytes
+
+-- where a record goes on after its operation, the zero and its first slices
+unfoldable pub partsFrom : Bytes → ℕ → ℕ
+partsFrom s zero = 2
+partsFrom s (suc k) = partsFrom s k + 2 + half (drop (partsFrom s k) s)
+
+-- what stands after the first k slices
+abbrev pub after : Bytes → ℕ → Bytes
+after s k = drop (partsFrom s k) s
+
+-- the bytes of slice k
+abbrev pub sliceOf : Bytes → ℕ → Bytes
+sliceOf s k = take (half (after s k)) (drop 2 (after s k))
+
+-- the number of four bytes that stands at an index of what comes after the slices
+abbrev pub number : Bytes → ℕ → ℕ → ℕ
+number s slices at = word (drop at (after s slices))
+
+-- the record has the zero, that many slices and then that many bytes
+abbrev pub hasParts : Bytes → ℕ → ℕ → Bool
+hasParts s slices rest = eqb (getD s 1 0) 0 && (leb (partsFrom s slices) (length s) && eqb (length (after s slices)) rest)
+
+-- ---- tables
+
+-- the recorded tables have at most this many rows, where columns are lent
+abbrev pub mostRows : ℕ
+mostRows = 64
+
+-- the bytes of such a table
+abbrev pub mostBytes : ℕ
+mostBytes = mostRows * 32
+
+-- the slice has no more bytes than such a table
+abbrev pub isSmall : Bytes → Bool
+isSmall s = leb (length s) mostBytes
+
+-- so many bytes: those of the slice, and 0 past its end
+abbrev pub copied : Bytes → Bytes
+copied s = tabulate mostBytes (row s)

@@ -1,0 +1,137 @@
+// The parts of a record, and a copy of one. Each function is total: a byte past the end is 0, and a slice past the end is cut off there.
+use columns::byte_at;
+use places::Pos;
+use world::row::pos_of;
+ghost use mathlib.Core.Path.{_≡_};
+ghost use Prim.Native.Nat.{_<_};
+ghost use lib.ListN.{take, drop};
+ghost use lib.IntN.{ℤ};
+ghost use Rattle.records.specs.Record.{half, word, long, entry, posAt, partsFrom, after, sliceOf, number, hasParts, copied};
+
+// What stands from an index on.
+pub fn from(s: &[u8], at: usize) -> &[u8]
+    ensures { λ r. ⌜ now r ≡ drop at (now (s .entry)) ⌝ }
+{
+    if at < s.len() {
+        return &s[at..];
+    }
+    &s[0..0]
+}
+
+// The first bytes, at most that many.
+pub fn front(s: &[u8], count: usize) -> &[u8]
+    ensures { λ r. ⌜ now r ≡ take count (now (s .entry)) ⌝ }
+{
+    if count < s.len() {
+        return &s[0..count];
+    }
+    s
+}
+
+fn wide(b: u8) -> u32
+    ensures { λ r. ⌜ (r ≡ b) × (r < 256) ⌝ }
+{
+    b as u32
+}
+
+// The number of two bytes at the front.
+pub fn half(s: &[u8]) -> u32
+    ensures { λ r. ⌜ (r ≡ half (now (s .entry))) × (r < 65536) ⌝ }
+{
+    wide(byte_at(s, 0)) + wide(byte_at(s, 1)) * 256
+}
+
+// The number of four bytes at the front.
+pub fn word(s: &[u8]) -> u32
+    ensures { λ r. ⌜ r ≡ word (now (s .entry)) ⌝ }
+{
+    wide(byte_at(s, 0))
+        + wide(byte_at(s, 1)) * 256
+        + wide(byte_at(s, 2)) * 65536
+        + wide(byte_at(s, 3)) * 16777216
+}
+
+fn widest(n: u32) -> u64
+    ensures { λ r. ⌜ (r ≡ n) × (r < 4294967296) ⌝ }
+{
+    n as u64
+}
+
+// The number of eight bytes at the front.
+pub fn long(s: &[u8]) -> u64
+    ensures { λ r. ⌜ r ≡ long (now (s .entry)) ⌝ }
+{
+    widest(word(s)) + widest(word(from(s, 4))) * 4294967296
+}
+
+// Entry i of a list of numbers of two bytes.
+pub fn entry(s: &[u8], i: usize) -> u32
+    ensures { λ r. ⌜ r ≡ entry (now (s .entry)) i ⌝ }
+{
+    if s.len() / 2 < i {
+        return 0;
+    }
+    half(from(s, i * 2))
+}
+
+// The position that stands at an index, laid out as in a row of a table.
+pub fn pos_at(s: &[u8], at: usize) -> Pos
+    ensures { λ q. ⌜ q ≡ posAt (now (s .entry)) at ⌝ }
+{
+    pos_of(from(s, at), 0)
+}
+
+// Where a record goes on after its first slices.
+fn parts_from(s: &[u8], slices: u8) -> usize
+    ensures { λ r. ⌜ r ≡ partsFrom (now (s .entry)) slices ⌝ }
+{
+    let mut at = 2;
+    let mut k = 0;
+    while k < slices {
+        at = at + 2 + (half(from(s, at)) as usize);
+        k += 1;
+    }
+    at
+}
+
+// What stands after a record's first slices.
+pub fn after(s: &[u8], slices: u8) -> &[u8]
+    ensures { λ r. ⌜ now r ≡ after (now (s .entry)) slices ⌝ }
+{
+    from(s, parts_from(s, slices))
+}
+
+// The bytes of slice k.
+pub fn slice_of(s: &[u8], k: u8) -> &[u8]
+    ensures { λ r. ⌜ now r ≡ sliceOf (now (s .entry)) k ⌝ }
+{
+    let rest = after(s, k);
+    front(from(rest, 2), half(rest) as usize)
+}
+
+// The number of four bytes that stands at an index of what comes after a record's slices.
+pub fn number(s: &[u8], slices: u8, at: usize) -> u32
+    ensures { λ r. ⌜ r ≡ number (now (s .entry)) slices at ⌝ }
+{
+    word(from(after(s, slices), at))
+}
+
+// Whether a record has the zero, that many slices and then that many bytes.
+pub fn has_parts(s: &[u8], slices: u8, rest: usize) -> bool
+    ensures { λ r. ⌜ r ≡ hasParts (now (s .entry)) slices rest ⌝ }
+{
+    (byte_at(s, 1) == 0) & ((parts_from(s, slices) <= s.len()) & (after(s, slices).len() == rest))
+}
+
+// The bytes of a slice in an array for a table of the most rows, for a call to change.
+pub fn copied(s: &[u8]) -> [u8; 2048]
+    ensures { λ a. ⌜ a ≡ copied (now (s .entry)) ⌝ }
+{
+    let mut a = [0u8; 2048];
+    let mut i = 0;
+    while i < 2048 {
+        a[i] = byte_at(s, i);
+        i += 1;
+    }
+    a
+}

@@ -1,0 +1,202 @@
+//! Operations 10 to 13: settle, fresh, ticks and switch.
+
+use differential::compare::{Answer, Answers};
+use differential::generate::{BENCH_PROFILE, Case};
+use differential::oracle::Oracle;
+use differential::random::Random;
+use differential::redstone::{
+    Call, Input, OriginalRun, SIGNAL, STATE, STRONG, Step, TABLE, WEAK, any_devices, fresh_devices,
+};
+use differential::table::{self, Position, Row, kind};
+
+use super::record::Record;
+use super::{MOST_ROWS, small_cases};
+
+/// The simulator's limit and the most rounds. Beside them the rounds that are needed and one fewer are asked.
+const LIMITS: [u32; 2] = [128, 17];
+
+const SETTLED_TABLES: usize = 10;
+const MOST_SETTLED_ROWS: usize = 24;
+const LEAST_ROUNDS: u32 = 3;
+/// Of the limits for a device column of a generated table this many are kept.
+const LIMITS_KEPT: usize = 2;
+
+/// Each step of a run has its table and state with it, so these are small tables.
+const RUNS: usize = 8;
+const MOST_RUN_ROWS: usize = 12;
+/// So many of a run's calls at least change the state.
+const LEAST_CHANGES: usize = 3;
+
+/// The least rows of the tables of the short runs.
+const SHORT_RUNS: [usize; 2] = [20, 40];
+
+pub fn records(seed: u64, random: &mut Random) -> Vec<Record> {
+    let [short_line, long_line] = [line(2), line(15)];
+    let mut records = Vec::new();
+    for case in [&short_line, &long_line] {
+        records.extend(settles(random, case, LIMITS.len() + 2));
+    }
+    for case in slow_cases(seed).take(SETTLED_TABLES) {
+        records.extend(settles(random, &case, LIMITS_KEPT));
+    }
+    for case in [short_line, lamp()] {
+        records.extend(run(&case, &steps(random, &case)).records);
+    }
+    records.extend(lively_runs(seed, random).take(RUNS).flatten());
+    records.extend(run(&long_line, &[Step::Fresh, Step::Ticks(1)]).records);
+    for least_rows in SHORT_RUNS {
+        let mut cases = small_cases(seed, MOST_ROWS).filter(|case| case.rows() >= least_rows);
+        let case = cases.next().expect("there are tables of every size");
+        records.extend(run(&case, &short_steps(random, &case)).records);
+    }
+    records
+}
+
+/// Settling with the fresh devices and with any, each at so many of the limits.
+fn settles(random: &mut Random, case: &Case, kept: usize) -> Vec<Record> {
+    let oracle = Oracle::new(case);
+    let mut records = Vec::new();
+    let mut columns_of_devices = vec![fresh_devices(&oracle), any_devices(random, &oracle.rows)];
+    columns_of_devices.dedup();
+    for devices in columns_of_devices {
+        let settle = |limit| settle(&oracle, &devices, limit);
+        let rounds = number(&settle(LIMITS[0]));
+        let mut limits = [&LIMITS[..], &[rounds, rounds - 1]].concat();
+        random.keep(&mut limits, kept);
+        for limit in limits {
+            let mut answer = settle(limit);
+            let record = Record::new(10).slice(&case.profile).slice(&case.table).slice(&devices);
+            records.push(columns(record, &mut answer).number(limit).number(number(&answer)));
+        }
+    }
+    records
+}
+
+fn settle(oracle: &Oracle, devices: &[u8], limit: u32) -> Answer {
+    let input = Input::Settle { devices: devices.to_vec(), limit };
+    oracle.answer(&Call { input, columns: [oracle.rows.len(); 3] })
+}
+
+/// A run, and how many of its calls with ticks changed the state.
+struct Run {
+    records: Vec<Record>,
+    changes: usize,
+}
+
+/// The steps of a run, each from the table and state that the one before left.
+fn run(case: &Case, steps: &[Step]) -> Run {
+    let oracle = Oracle::new(case);
+    let original = OriginalRun::new(&oracle);
+    let (mut table, mut state, mut tick) = (case.table.clone(), Vec::new(), 0);
+    let mut run = Run { records: Vec::new(), changes: 0 };
+    for step in steps {
+        let mut answer = original.answer(step);
+        let next = [answer.bytes(TABLE), answer.bytes(STATE)];
+        let with = |operation| Record::new(operation).slice(&case.profile).slice(&table);
+        let record = match *step {
+            Step::Fresh => columns(with(11).slice(&next[1]), &mut answer),
+            Step::Ticks(ticks) => {
+                let record = columns(with(12).slice(&state).slice(&next[1]), &mut answer);
+                let record = record.number(tick).number(ticks);
+                tick += ticks;
+                run.changes += usize::from(state != next[1]);
+                record
+            }
+            Step::Switch { at, powered } => {
+                let record = columns(with(13).slice(&next[0]).slice(&state), &mut answer);
+                record.position(at).number(powered.into())
+            }
+        };
+        run.records.push(record.number(number(&answer)));
+        [table, state] = next;
+    }
+    run
+}
+
+/// The signal, weak and strong columns.
+fn columns(record: Record, answer: &mut Answer) -> Record {
+    [SIGNAL, WEAK, STRONG].into_iter().fold(record, |record, column| record.slice(&answer.bytes(column)))
+}
+
+fn number(answer: &Answer) -> u32 {
+    u32::try_from(answer.number).expect("an answer of the layout's width")
+}
+
+/// One, two, five and forty ticks in a call and none, and between them switches: a row's on and off, and one where there is no row.
+fn steps(random: &mut Random, case: &Case) -> Vec<Step> {
+    let (at, powered) = (switch_position(random, case), random.percent(50));
+    let empty = empty_position(random, case);
+    vec![
+        Step::Fresh,
+        Step::Ticks(1),
+        Step::Ticks(2),
+        Step::Switch { at, powered },
+        Step::Ticks(5),
+        Step::Switch { at: empty, powered },
+        Step::Switch { at, powered: !powered },
+        Step::Ticks(40),
+        Step::Ticks(0),
+    ]
+}
+
+fn short_steps(random: &mut Random, case: &Case) -> Vec<Step> {
+    let (at, powered) = (switch_position(random, case), random.percent(50));
+    vec![Step::Fresh, Step::Switch { at, powered }, Step::Ticks(5)]
+}
+
+fn is_switch(row: &Row) -> bool {
+    matches!(row.kind, kind::LEVER | kind::BUTTON | kind::PLATE)
+}
+
+/// The position of a switch if there is one, else of any row.
+fn switch_position(random: &mut Random, case: &Case) -> Position {
+    let rows = table::decode(&case.table);
+    let mut switches: Vec<_> = rows.iter().filter(|row| is_switch(row)).collect();
+    if switches.is_empty() {
+        switches = rows.iter().collect();
+    }
+    random.pick(&switches).position
+}
+
+/// A position beside a row that no row has.
+fn empty_position(random: &mut Random, case: &Case) -> Position {
+    let rows = table::decode(&case.table);
+    let mut at = rows[random.below(rows.len())].position;
+    while rows.iter().any(|row| row.position == at) {
+        at[1] += 1;
+    }
+    at
+}
+
+/// Tables that need several rounds with their fresh devices.
+fn slow_cases(seed: u64) -> impl Iterator<Item = Case> {
+    small_cases(seed, MOST_SETTLED_ROWS).filter(|case| {
+        let oracle = Oracle::new(case);
+        number(&settle(&oracle, &fresh_devices(&oracle), LIMITS[0])) >= LEAST_ROUNDS
+    })
+}
+
+/// Runs of small tables with a switch, in which most calls with ticks change the state.
+fn lively_runs(seed: u64, random: &mut Random) -> impl Iterator<Item = Vec<Record>> {
+    let switched = |case: &Case| table::decode(&case.table).iter().any(is_switch);
+    let runs =
+        small_cases(seed, MOST_RUN_ROWS).filter(switched).map(|case| run(&case, &steps(random, &case)));
+    runs.filter(|run| run.changes >= LEAST_CHANGES).map(|run| run.records)
+}
+
+fn bench(sort: &'static str, rows: &[Row]) -> Case {
+    Case { seed: 0, sort, profile: BENCH_PROFILE.to_vec(), table: table::encode(rows) }
+}
+
+/// Tests 3 and 4 of document 01: a redstone block and so many dusts in a line, each on a solid.
+fn line(dusts: i32) -> Case {
+    let column = |x| [Row::new([x, 0, 0], kind::SOLID), Row::new([x, 1, 0], kind::DUST)];
+    let source = Row::new([0, 1, 0], kind::REDSTONE_BLOCK);
+    bench("line", &[vec![source], (1..=dusts).flat_map(column).collect()].concat())
+}
+
+/// A lever on a lamp, as for test 10.
+fn lamp() -> Case {
+    let lever = Row { powered: 2, support_offset: Some([0, -1, 0]), ..Row::new([0, 1, 0], kind::LEVER) };
+    bench("lamp", &[Row::new([0, 0, 0], kind::LAMP), lever])
+}
