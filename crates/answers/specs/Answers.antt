@@ -15,9 +15,9 @@ use Rattle.world.specs.Names.{shapeOfName}
 use Rattle.refusals.specs.Check.{checkInput, answerOf, written}
 use Rattle.supports.specs.Supports.{supportIssues, checkSupports}
 use Rattle.wire.specs.Arms.{inferWireConnection, resolvedWireConnection}
-use Rattle.wire.specs.Transfer.{dustTransfer}
+use Rattle.wire.specs.Transfer.{dustTransfer, transferNumber}
 use Rattle.redraw.specs.Redraw.{updateWireShapes}
-use Rattle.probe.specs.Numbers.{rowNumber, kindProperties, traitsNumber, knownFacing, transferNumber}
+use Rattle.probe.specs.Numbers.{rowNumber, kindProperties, traitsNumber, knownFacing}
 use Rattle.records.specs.Record.{entry, mostRows, isSmall}
 
 -- ---- traits of every row

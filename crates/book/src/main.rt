@@ -1,4 +1,4 @@
-// Runs the tests of document 01's book that are not proved. Each has a module of its own, with `run`.
+// Runs test 11 of document 01's book: the ends of the coordinates, and the most rows.
 mod report;
 mod table;
 mod test11;

@@ -121,4 +121,5 @@ reported input out = cond (leb room (length out)) (settleText input) []
 pub record Reports (input out out′ : Bytes) (r : ℕ) : Type 0 where
   pub answer : r ≡ length (reported input out)
   pub text : out′ ≡ atFront (reported input out) out
+  -- it follows from the two above, and spares the caller the proof
   pub within : r ≤ length out′
