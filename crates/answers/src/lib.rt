@@ -1,4 +1,6 @@
 // Whether the proved functions answer as the original did. Each function takes the parts of its operation's record.
+pub mod right;
+
 use columns::byte_at;
 use columns::same;
 use places::Pos;

@@ -1,7 +1,7 @@
--- `vectors::operations::redraw_right` meets its contract. Assumes nothing.
+-- `answers::right::traits_right` meets its contract. Assumes nothing.
 use borrow.Author.Needs.{needs}
-use Rattle.vectors.proofs.operations.redraw_right.Statement.{statement}
-use Rattle.vectors.proofs.operations.redraw_right.Tie as tie
+use Rattle.answers.proofs.right.traits_right.Statement.{statement}
+use Rattle.answers.proofs.right.traits_right.Tie as tie
 
 has-parts-requires : tie.Need-has-parts-requires
 has-parts-requires c κs = search needs
@@ -15,23 +15,19 @@ slice-of-requires-2 c κs = search needs
 slice-of-requires-3 : tie.Need-slice-of-requires-3
 slice-of-requires-3 c κs = search needs
 
-number-requires : tie.Need-number-requires
-number-requires c κs = search needs
-
-redraw-agrees-requires : tie.Need-redraw-agrees-requires
-redraw-agrees-requires c κs = search needs
+traits-agree-requires : tie.Need-traits-agree-requires
+traits-agree-requires c κs = search needs
 
 returns : tie.Need-returns
 returns c = cc
 
-pub redraw-right-spec : {M : Type 1} → statement M
-redraw-right-spec =
+pub traits-right-spec : {M : Type 1} → statement M
+traits-right-spec =
     tie.close
     (tie.spec
     has-parts-requires
     slice-of-requires
     slice-of-requires-2
     slice-of-requires-3
-    number-requires
-    redraw-agrees-requires
+    traits-agree-requires
     returns)

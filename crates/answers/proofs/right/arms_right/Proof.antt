@@ -1,7 +1,7 @@
--- `vectors::operations::arms_right` meets its contract. Assumes nothing.
+-- `answers::right::arms_right` meets its contract. Assumes nothing.
 use borrow.Author.Needs.{needs}
-use Rattle.vectors.proofs.operations.arms_right.Statement.{statement}
-use Rattle.vectors.proofs.operations.arms_right.Tie as tie
+use Rattle.answers.proofs.right.arms_right.Statement.{statement}
+use Rattle.answers.proofs.right.arms_right.Tie as tie
 
 after-requires : tie.Need-after-requires
 after-requires c κs = search needs

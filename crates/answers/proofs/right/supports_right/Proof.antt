@@ -1,7 +1,7 @@
--- `vectors::operations::traits_right` meets its contract. Assumes nothing.
+-- `answers::right::supports_right` meets its contract. Assumes nothing.
 use borrow.Author.Needs.{needs}
-use Rattle.vectors.proofs.operations.traits_right.Statement.{statement}
-use Rattle.vectors.proofs.operations.traits_right.Tie as tie
+use Rattle.answers.proofs.right.supports_right.Statement.{statement}
+use Rattle.answers.proofs.right.supports_right.Tie as tie
 
 has-parts-requires : tie.Need-has-parts-requires
 has-parts-requires c κs = search needs
@@ -15,19 +15,23 @@ slice-of-requires-2 c κs = search needs
 slice-of-requires-3 : tie.Need-slice-of-requires-3
 slice-of-requires-3 c κs = search needs
 
-traits-agree-requires : tie.Need-traits-agree-requires
-traits-agree-requires c κs = search needs
+number-requires : tie.Need-number-requires
+number-requires c κs = search needs
+
+supports-agree-requires : tie.Need-supports-agree-requires
+supports-agree-requires c κs = search needs
 
 returns : tie.Need-returns
 returns c = cc
 
-pub traits-right-spec : {M : Type 1} → statement M
-traits-right-spec =
+pub supports-right-spec : {M : Type 1} → statement M
+supports-right-spec =
     tie.close
     (tie.spec
     has-parts-requires
     slice-of-requires
     slice-of-requires-2
     slice-of-requires-3
-    traits-agree-requires
+    number-requires
+    supports-agree-requires
     returns)

@@ -1,7 +1,7 @@
--- `vectors::operations::properties_right` meets its contract. Assumes nothing.
+-- `answers::right::properties_right` meets its contract. Assumes nothing.
 use borrow.Author.Needs.{needs}
-use Rattle.vectors.proofs.operations.properties_right.Statement.{statement}
-use Rattle.vectors.proofs.operations.properties_right.Tie as tie
+use Rattle.answers.proofs.right.properties_right.Statement.{statement}
+use Rattle.answers.proofs.right.properties_right.Tie as tie
 
 has-parts-requires : tie.Need-has-parts-requires
 has-parts-requires c κs = search needs

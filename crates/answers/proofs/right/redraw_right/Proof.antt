@@ -1,7 +1,7 @@
--- `vectors::operations::supports_right` meets its contract. Assumes nothing.
+-- `answers::right::redraw_right` meets its contract. Assumes nothing.
 use borrow.Author.Needs.{needs}
-use Rattle.vectors.proofs.operations.supports_right.Statement.{statement}
-use Rattle.vectors.proofs.operations.supports_right.Tie as tie
+use Rattle.answers.proofs.right.redraw_right.Statement.{statement}
+use Rattle.answers.proofs.right.redraw_right.Tie as tie
 
 has-parts-requires : tie.Need-has-parts-requires
 has-parts-requires c κs = search needs
@@ -18,14 +18,14 @@ slice-of-requires-3 c κs = search needs
 number-requires : tie.Need-number-requires
 number-requires c κs = search needs
 
-supports-agree-requires : tie.Need-supports-agree-requires
-supports-agree-requires c κs = search needs
+redraw-agrees-requires : tie.Need-redraw-agrees-requires
+redraw-agrees-requires c κs = search needs
 
 returns : tie.Need-returns
 returns c = cc
 
-pub supports-right-spec : {M : Type 1} → statement M
-supports-right-spec =
+pub redraw-right-spec : {M : Type 1} → statement M
+redraw-right-spec =
     tie.close
     (tie.spec
     has-parts-requires
@@ -33,5 +33,5 @@ supports-right-spec =
     slice-of-requires-2
     slice-of-requires-3
     number-requires
-    supports-agree-requires
+    redraw-agrees-requires
     returns)

@@ -1,7 +1,7 @@
--- `vectors::operations::shape_right` meets its contract. Assumes nothing.
+-- `answers::right::shape_right` meets its contract. Assumes nothing.
 use borrow.Author.Needs.{needs}
-use Rattle.vectors.proofs.operations.shape_right.Statement.{statement}
-use Rattle.vectors.proofs.operations.shape_right.Tie as tie
+use Rattle.answers.proofs.right.shape_right.Statement.{statement}
+use Rattle.answers.proofs.right.shape_right.Tie as tie
 
 after-requires : tie.Need-after-requires
 after-requires c κs = search needs

@@ -1,0 +1,50 @@
+-- Whether the answer of a record of operations 1 to 9 is right.
+-- Assumes nothing.
+use mathlib.Core.Bool.{Bool, _&&_}
+use lib.ListN.{getD, drop}
+use Rattle.columns.specs.Column.{Bytes}
+use Rattle.records.specs.Record.{long, posAt, after, sliceOf, number, hasParts}
+use Rattle.answers.specs.Answers.{traitsAgree, shapeAgrees, findAgrees, supportsAgree, propertiesAgree, offsetAgrees, armsAgree, transferAgrees, redrawAgrees}
+
+module _ (r : Bytes) where
+  -- 1: profile, table, traits
+  abbrev pub traitsRight : Bool
+  traitsRight = hasParts r 3 0 && traitsAgree (sliceOf r 0) (sliceOf r 1) (sliceOf r 2)
+
+  -- 2: name, type, half; shape
+  abbrev pub shapeRight : Bool
+  shapeRight = hasParts r 3 1 && shapeAgrees (sliceOf r 0) (sliceOf r 1) (sliceOf r 2) (getD (after r 3) 0 0)
+
+  -- 3: table; position, row, kind
+  abbrev pub findRight : Bool
+  findRight =
+      hasParts r 1 21
+      && findAgrees (sliceOf r 0) (posAt (after r 1) 0) (long (drop 12 (after r 1))) (getD (after r 1) 20 0)
+
+  -- 4: profile, table, list; answer
+  abbrev pub supportsRight : Bool
+  supportsRight = hasParts r 3 4 && supportsAgree (sliceOf r 0) (sliceOf r 1) (sliceOf r 2) (number r 3 0)
+
+  -- 5: profile; properties
+  abbrev pub propertiesRight : Bool
+  propertiesRight = hasParts r 1 13 && propertiesAgree (sliceOf r 0) (after r 1)
+
+  -- 6: position, step, position
+  abbrev pub offsetRight : Bool
+  offsetRight = hasParts r 0 36 && offsetAgrees (posAt (after r 0) 0) (posAt (after r 0) 12) (posAt (after r 0) 24)
+
+  -- 7: profile, table; position, facing, inferred, resolved
+  abbrev pub armsRight : Bool
+  armsRight =
+      hasParts r 2 15
+      && armsAgree (sliceOf r 0) (sliceOf r 1) (posAt (after r 2) 0) (getD (after r 2) 12 0) (getD (after r 2) 13 0) (getD (after r 2) 14 0)
+
+  -- 8: profile, table; position, position, transfer
+  abbrev pub transferRight : Bool
+  transferRight =
+      hasParts r 2 25
+      && transferAgrees (sliceOf r 0) (sliceOf r 1) (posAt (after r 2) 0) (posAt (after r 2) 12) (getD (after r 2) 24 0)
+
+  -- 9: profile, table before, table after; answer
+  abbrev pub redrawRight : Bool
+  redrawRight = hasParts r 3 4 && redrawAgrees (sliceOf r 0) (sliceOf r 1) (sliceOf r 2) (number r 3 0)
