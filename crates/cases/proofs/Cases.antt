@@ -38,7 +38,7 @@ passes (c ∷ cs) = same (c .given) (c .wanted) && passes cs
 -- ---- settle, under the bench profile
 
 -- what every byte of the three columns is before a call
-before : ℕ
+abbrev before : ℕ
 before = 99
 
 -- a call with the fresh devices: the answer, then the signal, weak and strong columns, which a refused call leaves as they were
@@ -73,7 +73,7 @@ longLine = block RedstoneBlock 0 1 0 ++ pairs 15 1
 
 -- what a call answers, and the last signal
 ends : ℕ → Bytes → Column
-unfolding settling
+unfolding computing settling
 ends limit t = let all = settling limit t in getD all 0 0 ∷ getD all (rows t) 0 ∷ []
 
 -- test 5's table

@@ -31,14 +31,20 @@
  *
  * Devices. A byte a row: repeater powered or torch lit 0/1, comparator 0-255, other kinds 0.
  *
- * State. 16 bytes a row: 0 the device byte; 1 the repeater's queue, oldest at bit 0, one bit for each tick of delay;
- * 2 lamp lit 0/1; 3 ticks left until a dark lamp goes out; 4-7 torch toggles, bit j for a toggle j ticks ago, j from 0
- * to 30; 8 burn-out candidate 0/1; the rest 0.
+ * State. 16 bytes a row, of which the bytes of another kind's device are 0. Numbers have their low byte first.
+ *
+ *   0     the device byte
+ *   1     a repeater's queue, oldest at bit 0, one bit for each tick of its delay (1 if missing, clamped to 1-4); it is
+ *         below 2 to the delay, and bit 0 is byte 0
+ *   2, 3  lamp lit 0/1; ticks left until a dark lamp goes out, 0-2, 0 if unlit
+ *   4-7   a torch's toggles, bit j for a toggle j ticks ago, j from 0 to 30; bit 31 is 0
+ *   8     burn-out candidate 0/1, 1 where eight or more toggle bits are set
+ *   9-15  0
  *
  * Signal, weak, strong. A byte a row.
  *
- * Refusals, tested in this order, 4 over all rows before 5; the row is the first at fault for 4, 5 and a value in 6,
- * and else 0.
+ * Refusals, tested in this order as far as the call has the input, 4 over all rows before 5, in 6 the length before a
+ * value; the row is the first at fault for 4, 5 and a value in 6, and else 0.
  *
  *   1 profile     not 13 bytes, Air not 0, or a byte above 31
  *   2 ragged      table length not a multiple of 32
