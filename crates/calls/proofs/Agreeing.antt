@@ -1,19 +1,14 @@
--- What a call answered and wrote agrees with a record just where its definition does; and the front of a blank array, as it is lent.
+-- What a call answered and wrote agrees with a record just where its definition does.
 -- Assumes nothing.
-use mathlib.Core.Path.{_≡_, sym, ap, _∙_}
+use mathlib.Core.Path.{_≡_}
 use mathlib.Core.Bool.{_&&_}
-use Prim.Native.Nat.{ℕ, _≤_}
-use lib.ListN.{length, take, length-replicate}
-use lib.Seq.{length-take-le}
+use Prim.Native.Nat.{ℕ}
 use lib.Dec.{eqb}
 use Rattle.columns.specs.Column.{Bytes, Column, same}
 use Rattle.electrical.specs.Answer.{Settles}
 use Rattle.sim.specs.Calls.{Fresh, Ticks, Switches}
 use Rattle.records.specs.Record.{posAt, after, sliceOf, number}
-use Rattle.records.proofs.Blank.{front-blank}
-use Rattle.calls.specs.Calls.{blank, blanks, columnsAgree, settleIn, freshIn, ticksIn, switchIn}
-
--- ---- calls
+use Rattle.calls.specs.Calls.{columnsAgree, settleIn, freshIn, ticksIn, switchIn}
 
 module _ (r : Bytes) {signal weak strong signal′ weak′ strong′ : Column} {n : ℕ} where
   pub settle-agrees : Settles (sliceOf r 0) (sliceOf r 1) (sliceOf r 2) (number r 6 0) signal weak strong signal′ weak′ strong′ n
@@ -35,12 +30,3 @@ module _ (r : Bytes) {signal weak strong signal′ weak′ strong′ : Column} {
       → (eqb n (number r 7 16) && (same t′ (sliceOf r 2) && columnsAgree r 4 signal′ weak′ strong′)) ≡ switchIn r t signal weak strong
   unfolding switchIn
   switch-agrees h = rw (h .answer, h .table, h .columns .signals, h .columns .weaks, h .columns .strongs)
-
--- ---- blank arrays
-
--- as long as it was taken
-pub lent-length : (n m : ℕ) → n ≤ m → n ≡ length (take n (blanks m))
-lent-length n m h = sym (length-take-le n (blanks m) (rw length-replicate h))
-
-pub lent-blank : {n k : ℕ} (m : ℕ) → n ≤ m → n ≡ k → take n (blanks m) ≡ blanks k
-lent-blank {n} m h is = front-blank n m blank h ∙ ap blanks is

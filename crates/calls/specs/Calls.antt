@@ -4,7 +4,7 @@
 use mathlib.Core.Bool.{Bool, _&&_}
 use Prim.Native.Nat.{ℕ, _+_, _*_}
 use lib.ListN.{length, replicate}
-use lib.Dec.{eqb}
+use lib.Dec.{eqb, leb}
 use Rattle.columns.specs.Column.{Bytes, Column, same}
 use Rattle.network.specs.Network.{State}
 use Rattle.world.specs.Rows.{rows}
@@ -25,6 +25,10 @@ blank = 195
 -- a buffer of n such bytes
 abbrev pub blanks : ℕ → Bytes
 blanks n = replicate n blank
+
+-- the most ticks that a record asks for
+abbrev pub mostTicks : ℕ
+mostTicks = 1000
 
 -- ---- what a record says of the columns
 
@@ -80,24 +84,30 @@ module _ (r : Bytes) where
 
   -- ---- by operation
 
+  -- the record has the parts of its operation, and a table that is small
+  abbrev pub wellFormed : ℕ → ℕ → Bool
+  wellFormed slices rest = hasParts r slices rest && isSmall (sliceOf r 1)
+
   -- each of the three columns that are lent
   abbrev pub column : Column
   column = blanks (rows (sliceOf r 1))
 
   -- 10: profile, table, devices, signal, weak, strong; limit, answer
   unfoldable pub settleRight : Bool
-  settleRight = isSmall (sliceOf r 1) && (hasParts r 6 8 && settleIn column column column)
+  settleRight = wellFormed 6 8 && settleIn column column column
 
   -- 11: profile, table, state, signal, weak, strong; answer
   unfoldable pub freshRight : Bool
-  freshRight = isSmall (sliceOf r 1) && (hasParts r 6 4 && freshIn (blanks (rows (sliceOf r 1) * 16)) column column column)
+  freshRight = wellFormed 6 4 && freshIn (blanks (rows (sliceOf r 1) * 16)) column column column
+
+  -- a record of ticks, from a state that is small; one that asks for more ticks than the most is wrong, so that a replay is short
+  abbrev pub wellFormedTicks : Bool
+  wellFormedTicks = wellFormed 7 12 && (isSmall (sliceOf r 2) && leb (number r 7 4) mostTicks)
 
   -- 12: profile, table, state before, state after, signal, weak, strong; tick, ticks, answer
   unfoldable pub ticksRight : Bool
-  ticksRight =
-      isSmall (sliceOf r 1)
-      && (isSmall (sliceOf r 2) && (hasParts r 7 12 && ticksIn (sliceOf r 2) column column column))
+  ticksRight = wellFormedTicks && ticksIn (sliceOf r 2) column column column
 
   -- 13: profile, table before, table after, state, signal, weak, strong; x, y, z, powered, answer
   unfoldable pub switchRight : Bool
-  switchRight = isSmall (sliceOf r 1) && (hasParts r 7 20 && switchIn (sliceOf r 1) column column column)
+  switchRight = wellFormed 7 20 && switchIn (sliceOf r 1) column column column

@@ -11,13 +11,29 @@ use world::row::rows;
 ghost use mathlib.Core.Path.{_≡_};
 ghost use Prim.Native.Nat.{_<_};
 ghost use lib.IntN.{ℤ};
-ghost use Rattle.calls.specs.Calls.{columnsAgree, settleIn, settleRight, freshIn, freshRight, ticksIn, ticksRight, switchIn, switchRight};
+ghost use Rattle.calls.specs.Calls.{wellFormed, wellFormedTicks, columnsAgree, settleIn, settleRight, freshIn, freshRight, ticksIn, ticksRight, switchIn, switchRight};
 
 // What every byte of a buffer that a call is to fill is before it.
 const BLANK: u8 = 195;
 
 // The bytes of a table of the most rows.
 const MOST: usize = 2048;
+
+const MOST_TICKS: u32 = 1000;
+
+// Whether a record has so many slices and bytes after them, and a table of at most the most rows.
+fn well_formed(r: &[u8], slices: u8, rest: usize) -> bool
+    ensures { λ b. ⌜ b ≡ wellFormed (now (r .entry)) slices rest ⌝ }
+{
+    has_parts(r, slices, rest) & (slice_of(r, 1).len() <= MOST)
+}
+
+// Whether a record of ticks is well formed, and asks for no more of them than the most.
+fn well_formed_ticks(r: &[u8]) -> bool
+    ensures { λ b. ⌜ b ≡ wellFormedTicks (now (r .entry)) ⌝ }
+{
+    well_formed(r, 7, 12) & ((slice_of(r, 2).len() <= MOST) & (number(r, 7, 4) <= MOST_TICKS))
+}
 
 // Whether the columns are slices k to k + 2.
 fn columns_agree(r: &[u8], k: u8, signal: &[u8], weak: &[u8], strong: &[u8]) -> bool
@@ -47,15 +63,14 @@ fn settle_in(r: &[u8], signal: &mut [u8], weak: &mut [u8], strong: &mut [u8]) ->
 pub fn settle_right(r: &[u8]) -> bool
     ensures { λ b. ⌜ b ≡ settleRight (now (r .entry)) ⌝ }
 {
-    let table = slice_of(r, 1);
-    if MOST < table.len() {
-        return false;
+    if well_formed(r, 6, 8) {
+        let n = rows(slice_of(r, 1));
+        let mut signal = [BLANK; 64];
+        let mut weak = [BLANK; 64];
+        let mut strong = [BLANK; 64];
+        return settle_in(r, &mut signal[..n], &mut weak[..n], &mut strong[..n]);
     }
-    let n = rows(table);
-    let mut signal = [BLANK; 64];
-    let mut weak = [BLANK; 64];
-    let mut strong = [BLANK; 64];
-    has_parts(r, 6, 8) & settle_in(r, &mut signal[..n], &mut weak[..n], &mut strong[..n])
+    false
 }
 
 fn fresh_in(
@@ -83,23 +98,21 @@ fn fresh_in(
 pub fn fresh_right(r: &[u8]) -> bool
     ensures { λ b. ⌜ b ≡ freshRight (now (r .entry)) ⌝ }
 {
-    let table = slice_of(r, 1);
-    if MOST < table.len() {
-        return false;
-    }
-    let n = rows(table);
-    let mut state = [BLANK; 1024];
-    let mut signal = [BLANK; 64];
-    let mut weak = [BLANK; 64];
-    let mut strong = [BLANK; 64];
-    has_parts(r, 6, 4)
-        & fresh_in(
+    if well_formed(r, 6, 4) {
+        let n = rows(slice_of(r, 1));
+        let mut state = [BLANK; 1024];
+        let mut signal = [BLANK; 64];
+        let mut weak = [BLANK; 64];
+        let mut strong = [BLANK; 64];
+        return fresh_in(
             r,
             &mut state[..n * 16],
             &mut signal[..n],
             &mut weak[..n],
             &mut strong[..n],
-        )
+        );
+    }
+    false
 }
 
 fn ticks_in(
@@ -129,28 +142,23 @@ fn ticks_in(
 pub fn ticks_right(r: &[u8]) -> bool
     ensures { λ b. ⌜ b ≡ ticksRight (now (r .entry)) ⌝ }
 {
-    let table = slice_of(r, 1);
-    if MOST < table.len() {
-        return false;
-    }
-    let before = slice_of(r, 2);
-    let bytes = before.len();
-    if MOST < bytes {
-        return false;
-    }
-    let n = rows(table);
-    let mut state = copied(before);
-    let mut signal = [BLANK; 64];
-    let mut weak = [BLANK; 64];
-    let mut strong = [BLANK; 64];
-    has_parts(r, 7, 12)
-        & ticks_in(
+    if well_formed_ticks(r) {
+        let n = rows(slice_of(r, 1));
+        let before = slice_of(r, 2);
+        let bytes = before.len();
+        let mut state = copied(before);
+        let mut signal = [BLANK; 64];
+        let mut weak = [BLANK; 64];
+        let mut strong = [BLANK; 64];
+        return ticks_in(
             r,
             &mut state[..bytes],
             &mut signal[..n],
             &mut weak[..n],
             &mut strong[..n],
-        )
+        );
+    }
+    false
 }
 
 fn switch_in(
@@ -183,22 +191,21 @@ fn switch_in(
 pub fn switch_right(r: &[u8]) -> bool
     ensures { λ b. ⌜ b ≡ switchRight (now (r .entry)) ⌝ }
 {
-    let before = slice_of(r, 1);
-    let bytes = before.len();
-    if MOST < bytes {
-        return false;
-    }
-    let n = rows(before);
-    let mut table = copied(before);
-    let mut signal = [BLANK; 64];
-    let mut weak = [BLANK; 64];
-    let mut strong = [BLANK; 64];
-    has_parts(r, 7, 20)
-        & switch_in(
+    if well_formed(r, 7, 20) {
+        let before = slice_of(r, 1);
+        let bytes = before.len();
+        let n = rows(before);
+        let mut table = copied(before);
+        let mut signal = [BLANK; 64];
+        let mut weak = [BLANK; 64];
+        let mut strong = [BLANK; 64];
+        return switch_in(
             r,
             &mut table[..bytes],
             &mut signal[..n],
             &mut weak[..n],
             &mut strong[..n],
-        )
+        );
+    }
+    false
 }

@@ -1,87 +1,82 @@
 -- `calls::switch_right` meets its contract: the table that is lent is the recorded one, and the columns are blank. Assumes nothing.
-use mathlib.Core.Path.{_≡_, sym, ap}
+use mathlib.Core.Path.{_≡_, sym, ap, _∙_}
 use Prim.Native.Nat.{_≤_}
-use native.Mathlib.Omega.{arith}
 use lib.ListN.{length, take}
-use borrow.Author.Tests.{lt-leb, le-leb}
-use Rattle.world.specs.Rows.{rows}
-use Rattle.records.specs.Record.{sliceOf}
 use Rattle.records.proofs.Copies.{front-copied}
 use Rattle.calls.specs.Calls.{switchRight}
-use Rattle.calls.proofs.Agreeing.{lent-length, lent-blank}
+use Rattle.calls.proofs.Lending.{lent-length, lent-blank, Small, small}
 use borrow.Author.Needs.{needs}
 use Rattle.calls.proofs.switch_right.Statement.{statement}
 use Rattle.calls.proofs.switch_right.Tie as tie
 
+well-formed-requires : tie.Need-well-formed-requires
+well-formed-requires c κs = search needs
+
 slice-of-requires : tie.Need-slice-of-requires
 slice-of-requires c κs = search needs
-
-returns : tie.Need-returns
-unfolding switchRight
-returns c = rw (← c .before .slice-of .ensures, lt-leb _ 2048 (c .if1 .taken))
 
 rows-requires : tie.Need-rows-requires
 rows-requires c κs = search needs
 
-few : (c : tie.After-rows) → c .rows .result ≤ 64
-few c = omega arith
+-- what is known once the rows are counted
+at : (c : tie.After-rows) → Small (c .before .before .before .before .before .args .r .now) (c .rows .result)
+at c = small _ 7 20 (sym (c .before .before .before .well-formed .ensures) ∙ c .before .before .if1 .taken) (c .before .slice-of .ensures) (c .rows .ensures)
 
 copied-requires : tie.Need-copied-requires
 copied-requires c κs = search needs
 
--- what is lent is a copy
-lent : (c : tie.After-copied) → take (length (c .before .before .before .slice-of .result .now)) (c .copied .result) ≡ c .before .before .before .slice-of .result .now
-lent c = rw (c .copied .ensures) (front-copied (c .before .before .before .slice-of .result .now) (c .before .before .if1 .left))
+short : (c : tie.After-copied) → length (c .before .before .slice-of .result .now) ≤ 2048
+short c = rw (c .before .before .slice-of .ensures) (at (c .before) .table)
 
-has-parts-requires : tie.Need-has-parts-requires
-has-parts-requires c κs = search needs
+-- what is lent is a copy
+lent : (c : tie.After-copied) → take (length (c .before .before .slice-of .result .now)) (c .copied .result) ≡ c .before .before .slice-of .result .now
+lent c = rw (c .copied .ensures) (front-copied (c .before .before .slice-of .result .now) (short c))
 
 array-borrow-prefix-table : tie.Need-array-borrow-prefix-table
-array-borrow-prefix-table c = search needs
+array-borrow-prefix-table c = let h = short c in search needs
 
 slice-aggregate-switch-in : tie.Need-slice-aggregate-switch-in
-slice-aggregate-switch-in c = sym (ap length (lent (c .before .before)))
+slice-aggregate-switch-in c = sym (ap length (lent (c .before)))
 
 array-borrow-prefix-signal : tie.Need-array-borrow-prefix-signal
-array-borrow-prefix-signal c = search needs
+array-borrow-prefix-signal c = at (c .before .before) .few
 
 slice-aggregate-switch-in-2 : tie.Need-slice-aggregate-switch-in-2
-slice-aggregate-switch-in-2 c = lent-length _ 64 (few (c .before .before .before .before))
+slice-aggregate-switch-in-2 c = lent-length _ 64 (at (c .before .before .before) .few)
 
 array-borrow-prefix-weak : tie.Need-array-borrow-prefix-weak
-array-borrow-prefix-weak c = search needs
+array-borrow-prefix-weak c = at (c .before .before .before) .few
 
 slice-aggregate-switch-in-3 : tie.Need-slice-aggregate-switch-in-3
-slice-aggregate-switch-in-3 c = lent-length _ 64 (few (c .before .before .before .before .before))
+slice-aggregate-switch-in-3 c = lent-length _ 64 (at (c .before .before .before .before) .few)
 
 array-borrow-prefix-strong : tie.Need-array-borrow-prefix-strong
-array-borrow-prefix-strong c = search needs
+array-borrow-prefix-strong c = at (c .before .before .before .before) .few
 
 slice-aggregate-switch-in-4 : tie.Need-slice-aggregate-switch-in-4
-slice-aggregate-switch-in-4 c = lent-length _ 64 (few (c .before .before .before .before .before .before))
+slice-aggregate-switch-in-4 c = lent-length _ 64 (at (c .before .before .before .before .before) .few)
 
 switch-in-requires : tie.Need-switch-in-requires
 switch-in-requires c κs = search needs
 
+returns : tie.Need-returns
+unfolding switchRight
+returns c =
+    let s = at (c .before .before .before .before .before .before .before .before .before .before) in
+    rw (← c .before .before .before .before .before .before .before .before .before .before .before .before .before .well-formed .ensures, c .before .before .before .before .before .before .before .before .before .before .before .before .if1 .taken, ← lent-blank 64 (s .few) (s .is), ← c .before .before .before .before .before .before .before .before .before .before .before .slice-of .ensures, ← lent (c .before .before .before .before .before .before .before .before .before)) (c .before .before .before .before .switch-in .ensures)
+
 returns-2 : tie.Need-returns-2
 unfolding switchRight
-returns-2 c =
-    let counted = c .before .before .before .before .before .before .before .before .before .before .before in
-    let s = counted .before .before .slice-of .ensures in
-    let t = sliceOf (counted .before .before .before .before .args .r .now) 1 in
-    let is : counted .rows .result ≡ rows t = rw s at (counted .rows .ensures) in
-    let small : length t ≤ 2048 = rw s at (counted .before .if1 .left) in
-    rw (le-leb _ 2048 small, ← lent-blank 64 (few counted) is, c .before .before .before .before .before .before .before .before .before .has-parts .ensures, c .before .before .before .before .switch-in .ensures, lent (c .before .before .before .before .before .before .before .before .before .before), s)
+returns-2 c = rw (← c .before .well-formed .ensures, c .if1 .left)
 
 pub switch-right-spec : {M : Type 1} → statement M
 switch-right-spec =
     tie.close
     (tie.spec
+    well-formed-requires
     slice-of-requires
-    returns
     rows-requires
     copied-requires
-    has-parts-requires
     array-borrow-prefix-table
     slice-aggregate-switch-in
     array-borrow-prefix-signal
@@ -91,4 +86,5 @@ switch-right-spec =
     array-borrow-prefix-strong
     slice-aggregate-switch-in-4
     switch-in-requires
+    returns
     returns-2)
