@@ -44,15 +44,17 @@ same-rule n f g h = is-tabulate (tabulate n f) n g (length-tabulate n 0 f) (λ i
 -- ---- a loop that fills a column: the first i of its n rows are those of f
 
 pub record Filled (f : ℕ → ℕ) (n i : ℕ) (s : Column) : Type 0 where
+  pub within : i ≤ n
   pub rows : length s ≡ n
   pub passed : (k : ℕ) → k < i → row s k ≡ f k
 
 pub filled-none : {f : ℕ → ℕ} {n : ℕ} {s : Column} → length s ≡ n → Filled f n 0 s
-filled-none p = record { rows = p; passed = λ k l. absurd (not-suc-le-zero l) }
+filled-none p = record { within = omega arith; rows = p; passed = λ k l. absurd (not-suc-le-zero l) }
 
 pub filled-more : {f : ℕ → ℕ} {n i : ℕ} {s : Column} {x : ℕ} → Filled f n i s → i < n → x ≡ f i → Filled f n (i + 1) (set s i x)
 filled-more {f} {n} {i} {s} {x} h l p =
     record {
+      within = omega arith;
       rows = length-set s i x ∙ h .rows;
       passed =
           below-more (λ k. row (set s i x) k ≡ f k) i
@@ -60,8 +62,11 @@ filled-more {f} {n} {i} {s} {x} h l p =
           (getD-set-same s i x 0 (rw (h .rows) l) ∙ p);
     }
 
-pub filled-all : {f : ℕ → ℕ} {n i : ℕ} {s : Column} → Filled f n i s → i ≡ n → s ≡ tabulate n f
-filled-all {f} {n} {i} {s} h p = is-tabulate s n f (h .rows) (λ k l. h .passed k (rw p l))
+pub filled-all : {f : ℕ → ℕ} {n i : ℕ} {s : Column} → Filled f n i s → n ≤ i → s ≡ tabulate n f
+filled-all {f} {n} {i} {s} h p = is-tabulate s n f (h .rows) (λ k l. h .passed k (omega arith))
+
+-- what `search` is handed at the needs of such a loop
+pub ruleset fills = (filled-none, filled-more, filled-all)
 
 -- ---- two lists that the test calls the same are one
 

@@ -1,16 +1,29 @@
--- Laws of the front of an array of zeros, lent as a column.
+-- Laws of the room that is lent: the output columns of a call, and the front of an array of zeros, lent as a column.
 -- Assumes nothing.
 use mathlib.Core.Path.{_≡_, _∙_}
+use mathlib.Core.Bool.{true}
 use Prim.Native.Nat.{ℕ, _≤_}
 use native.Mathlib.Omega.{arith}
 use lib.ListN.{length, take, replicate, length-replicate, getD-replicate}
 use lib.Seq.{length-take-le, getD-take}
-use Rattle.columns.specs.Column.{Bytes}
+use lib.Dec.{eqb}
+use borrow.Author.Tests.{eqb-true}
+use Rattle.columns.specs.Column.{Bytes, Column}
 use Rattle.columns.proofs.Columns.{is-tabulate}
+use Rattle.columns.proofs.Truth.{and-true}
 use Rattle.network.specs.Network.{nowhere}
 use Rattle.world.specs.Rows.{rows}
 use Rattle.refusals.proofs.Accepted.{Table}
 use Rattle.electrical.specs.Edges.{networkOf}
+use Rattle.electrical.specs.Answer.{goodColumns}
+use Rattle.rounds.specs.Prepared.{Outputs}
+
+-- output columns that pass their check
+pub outputs : (t : Bytes) (signal weak strong : Column) → goodColumns t (length signal) (length weak) (length strong) ≡ true → Outputs t signal weak strong
+outputs t signal weak strong h =
+    let (s, others) = and-true (eqb (length signal) (rows t)) _ h in
+    let (w, g) = and-true (eqb (length weak) (rows t)) _ others in
+    record { signal-rows = eqb-true _ _ s; weak-rows = eqb-true _ _ w; strong-rows = eqb-true _ _ g }
 
 -- as long as it was taken
 pub length-zeros : (n m : ℕ) → n ≤ m → length (take {A = ℕ} n (replicate m 0)) ≡ n

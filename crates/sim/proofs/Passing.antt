@@ -1,7 +1,7 @@
 -- What the checks of a call say where nothing is refused, and the room that is lent then.
 -- Assumes nothing.
 use mathlib.Core.Path.{_≡_, sym, _∙_}
-use mathlib.Core.Bool.{true, _&&_}
+use mathlib.Core.Bool.{_&&_}
 use Prim.Native.Nat.{ℕ, _*_, _≤_}
 use native.Mathlib.Omega.{arith}
 use lib.ListN.{length, take, replicate}
@@ -17,7 +17,7 @@ use Rattle.refusals.proofs.Passed.{passed-unless, passed-both}
 use Rattle.refusals.proofs.Accepted.{accepted-input}
 use Rattle.electrical.specs.Answer.{roundsOf, goodColumns}
 use Rattle.rounds.specs.Prepared.{Outputs}
-use Rattle.rounds.proofs.Lending.{length-zeros}
+use Rattle.rounds.proofs.Lending.{outputs, length-zeros}
 use Rattle.wire.proofs.Alike.{same-rows}
 use Rattle.sim.specs.State.{devicesOf, IsValidState, checkState}
 use Rattle.sim.specs.Running.{Room, Ready, Stands}
@@ -33,12 +33,6 @@ pub record Passed (p t : Bytes) (Its : Type 0) (signal weak strong : Column) : T
   pub outputs : Outputs t signal weak strong
 
 module _ (p t st : Bytes) (signal weak strong : Column) where
-  columns-room : goodColumns t (length signal) (length weak) (length strong) ≡ true → Outputs t signal weak strong
-  columns-room h =
-      let (s, others) = and-true (eqb (length signal) (rows t)) _ h in
-      let (w, g) = and-true (eqb (length weak) (rows t)) _ others in
-      record { signal-rows = eqb-true _ _ s; weak-rows = eqb-true _ _ w; strong-rows = eqb-true _ _ g }
-
   pub passed-fresh : checkFresh p t (length st) (length signal) (length weak) (length strong) ≡ Accepted
       → Passed p t (length st ≡ rows t * 16) signal weak strong
   unfolding checkFresh
@@ -46,7 +40,7 @@ module _ (p t st : Bytes) (signal weak strong : Column) where
       let (input, rest) = passed-both (checkInput p t) _ h in
       let (room, _) = passed-unless 7 (eqb (length st) (rows t * 16) && goodColumns t (length signal) (length weak) (length strong)) Accepted rest in
       let (state, columns) = and-true (eqb (length st) (rows t * 16)) _ room in
-      record { accepted = input; state = eqb-true _ _ state; outputs = columns-room columns }
+      record { accepted = input; state = eqb-true _ _ state; outputs = outputs t signal weak strong columns }
 
   pub passed-step : checkStep p t st (length signal) (length weak) (length strong) ≡ Accepted → Passed p t (IsValidState t st) signal weak strong
   unfolding checkStep
@@ -54,7 +48,7 @@ module _ (p t st : Bytes) (signal weak strong : Column) where
       let (input, rest) = passed-both (checkInput p t) _ h in
       let (state, last) = passed-both (checkState t st) _ rest in
       let (columns, _) = passed-unless 7 (goodColumns t (length signal) (length weak) (length strong)) Accepted last in
-      record { accepted = input; state = state; outputs = columns-room columns }
+      record { accepted = input; state = state; outputs = outputs t signal weak strong columns }
 
   pub passed-tick : (now asked : ℕ) → checkTick p t st now asked (length signal) (length weak) (length strong) ≡ Accepted
       → Passed p t (IsValidState t st) signal weak strong
@@ -67,10 +61,14 @@ module _ (p t : Bytes) {n : ℕ} (a : IsAccepted p t) (e : n ≡ rows t) where
   pub few : n ≤ 1024
   few = omega (arith, accepted-input p t a .1 .few)
 
+  -- as long as it was taken
+  pub front : n ≡ length (take {A = ℕ} n (replicate 1024 0))
+  front = sym (length-zeros n 1024 few)
+
   pub device-room : {signal weak strong : Column} → Outputs t signal weak strong → Room t (take n (replicate 1024 0)) signal weak strong
   device-room o =
       record {
-        device-rows = length-zeros n 1024 few ∙ e;
+        device-rows = sym front ∙ e;
         signal-rows = o .signal-rows;
         weak-rows = o .weak-rows;
         strong-rows = o .strong-rows;

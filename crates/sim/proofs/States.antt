@@ -19,6 +19,41 @@ use Rattle.states.proofs.FreshRows.{fresh-reads}
 use Rattle.sim.specs.State.{sixteen, devicesOf, freshDevices, freshState}
 use Rattle.sim.specs.Tick.{withDevices, withLamps, settledOf, setDevices, setLamps, tick, ticks}
 
+-- ---- the rows of a tick
+
+module _ (t st : Bytes) (long : length st ≡ rows t * 16) where
+  -- a row has sixteen bytes
+  pub row-length : (i : ℕ) → i < rows t → length (sixteen st i) ≡ 16
+  row-length i h = length-part 16 st i (omega arith)
+
+  module _ (p : Bytes) (d : Column) (s : State) where
+    -- the rows and the lengths of a state whose devices, or lamps, are set: "sets all devices from the old settled state"
+    pub devices-row : (i : ℕ) → i < rows t → sixteen (withDevices p t d s st) i ≡ deviceRow p t d s i (sixteen st i)
+    unfolding withDevices
+    devices-row = part-joined 16 _ (rows t) (λ i h. length-device p t _ s i (sixteen st i) ∙ row-length i h)
+
+    pub length-devices : length (withDevices p t d s st) ≡ rows t * 16
+    unfolding withDevices
+    length-devices = length-joined 16 _ (rows t) (λ i h. length-device p t _ s i (sixteen st i) ∙ row-length i h)
+
+    lamp-lengths : (i : ℕ) → i < rows t → length (lampRow t s i (sixteen st i)) ≡ 16
+    lamp-lengths i h = length-lamp p t d s i (sixteen st i) ∙ row-length i h
+
+    pub lamps-row : (i : ℕ) → i < rows t → sixteen (withLamps t s st) i ≡ lampRow t s i (sixteen st i)
+    unfolding withLamps
+    lamps-row = part-joined 16 _ (rows t) lamp-lengths
+
+    pub length-lamps : length (withLamps t s st) ≡ rows t * 16
+    unfolding withLamps
+    length-lamps = length-joined 16 _ (rows t) lamp-lengths
+
+    -- the lamps leave the devices alone
+    pub lamps-devices : devicesOf t (withLamps t s st) ≡ devicesOf t st
+    unfolding devicesOf
+    lamps-devices =
+        same-rule (rows t) (λ i. deviceOf (sixteen (withLamps t s st) i)) (λ i. deviceOf (sixteen st i))
+        (λ i h. ap deviceOf (lamps-row i h) ∙ lamp-device p t d s i (sixteen st i))
+
 -- ---- the steps read no more than the three columns of a settled state
 
 module _ (p t : Bytes) (d : Column) (s : State) (st : Bytes) where
@@ -33,44 +68,6 @@ module _ (p t : Bytes) (d : Column) (s : State) (st : Bytes) where
 pub fresh-read : (p t : Bytes) → (let s = settled p t (freshDevices t) in joined (rows t) (freshRow t (powersOf (s .weak) (s .strong)))) ≡ freshState p t
 unfolding freshState
 fresh-read p t = let s = settled p t (freshDevices t) in λ x. joined (rows t) (λ i. fresh-reads t s i x)
-
--- ---- the rows of a tick
-
-module _ (t st : Bytes) (long : length st ≡ rows t * 16) where
-  -- a row has sixteen bytes
-  pub row-length : (i : ℕ) → i < rows t → length (sixteen st i) ≡ 16
-  row-length i h = length-part 16 st i (omega arith)
-
-  module _ (p : Bytes) (d : Column) (s : State) where
-    device-lengths : (i : ℕ) → i < rows t → length (deviceRow p t d s i (sixteen st i)) ≡ 16
-    device-lengths i h = length-device p t d s i (sixteen st i) ∙ row-length i h
-
-    lamp-lengths : (i : ℕ) → i < rows t → length (lampRow t s i (sixteen st i)) ≡ 16
-    lamp-lengths i h = length-lamp p t d s i (sixteen st i) ∙ row-length i h
-
-    -- the lengths and the rows of a state whose devices, or lamps, are set
-    pub length-devices : length (withDevices p t d s st) ≡ rows t * 16
-    unfolding withDevices
-    length-devices = length-joined 16 _ (rows t) device-lengths
-
-    pub length-lamps : length (withLamps t s st) ≡ rows t * 16
-    unfolding withLamps
-    length-lamps = length-joined 16 _ (rows t) lamp-lengths
-
-    pub devices-row : (i : ℕ) → i < rows t → sixteen (withDevices p t d s st) i ≡ deviceRow p t d s i (sixteen st i)
-    unfolding withDevices
-    devices-row i h = part-joined 16 _ (rows t) device-lengths i h
-
-    pub lamps-row : (i : ℕ) → i < rows t → sixteen (withLamps t s st) i ≡ lampRow t s i (sixteen st i)
-    unfolding withLamps
-    lamps-row i h = part-joined 16 _ (rows t) lamp-lengths i h
-
-    -- the lamps leave the devices alone
-    pub lamps-devices : devicesOf t (withLamps t s st) ≡ devicesOf t st
-    unfolding devicesOf
-    lamps-devices =
-        same-rule (rows t) (λ i. deviceOf (sixteen (withLamps t s st) i)) (λ i. deviceOf (sixteen st i))
-        (λ i h. ap deviceOf (lamps-row i h) ∙ lamp-device p t d s i (sixteen st i))
 
 -- ---- a tick
 

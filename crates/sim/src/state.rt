@@ -19,11 +19,8 @@ pub fn fill_devices(table: &[u8], state: &[u8], devices: &mut [u8])
     requires { ⌜ (length (now state) ≡ rows (now table) * 16) × (length (now devices) ≡ rows (now table)) ⌝ }
     ensures { λ _. ⌜ now (devices .exit) ≡ devicesOf (now (table .entry)) (now (state .entry)) ⌝ }
 {
-    let n = rows(table);
-    let mut i = 0;
-    while i < n {
+    for i in 0..devices.len() {
         devices[i] = byte_at(state, i * 16);
-        i += 1;
     }
 }
 
@@ -32,11 +29,8 @@ pub fn fill_fresh_devices(table: &[u8], devices: &mut [u8])
     requires { ⌜ length (now devices) ≡ rows (now table) ⌝ }
     ensures { λ _. ⌜ now (devices .exit) ≡ freshDevices (now (table .entry)) ⌝ }
 {
-    let n = rows(table);
-    let mut i = 0;
-    while i < n {
+    for i in 0..devices.len() {
         devices[i] = fresh_device(table, i);
-        i += 1;
     }
 }
 

@@ -4,11 +4,8 @@ use mathlib.Core.Path.{_≡_, refl, sym, _∙_}
 use mathlib.Core.Bool.{Bool, true, false, cond}
 use Prim.Native.Nat.{ℕ}
 use lib.ListN.{length}
-use lib.Dec.{eqb, leb}
-use borrow.Author.Tests.{eqb-true}
+use lib.Dec.{leb}
 use Rattle.columns.specs.Column.{Bytes, Column}
-use Rattle.columns.proofs.Truth.{and-true}
-use Rattle.world.specs.Rows.{rows}
 use Rattle.refusals.specs.declared.Checked.{Checked}
 use Rattle.refusals.specs.declared.Checked.the-variants.{Accepted, Refused}
 use Rattle.refusals.specs.Check.{refuseUnless, checkInput, answerOf}
@@ -20,6 +17,7 @@ use Rattle.rounds.specs.declared.Outcome.{Outcome}
 use Rattle.rounds.specs.declared.Outcome.the-variants.{Settled, Unsettled}
 use Rattle.rounds.specs.Prepared.{Outputs}
 use Rattle.rounds.specs.Outcome.{outcomeOf, Solves}
+use Rattle.rounds.proofs.Lending.{outputs}
 use Rattle.solver.specs.Answer.{answerBy}
 
 module _ (p t : Bytes) (d signal weak strong : Column) where
@@ -30,9 +28,7 @@ module _ (p t : Bytes) (d signal weak strong : Column) where
       let (input, rest) = passed-both (checkInput p t) _ h in
       let (_, columns) = passed-both (checkDevices t d) _ rest in
       let (good, _) = passed-unless 7 (goodColumns t (length signal) (length weak) (length strong)) Accepted columns in
-      let (s, others) = and-true (eqb (length signal) (rows t)) _ good in
-      let (w, g) = and-true (eqb (length weak) (rows t)) _ others in
-      (accepted-input p t input .1, record { signal-rows = eqb-true _ _ s; weak-rows = eqb-true _ _ w; strong-rows = eqb-true _ _ g })
+      (accepted-input p t input .1, outputs t signal weak strong good)
 
   -- what the call checked
   module _ {c : Checked} (checked : c ≡ checkCall p t d (length signal) (length weak) (length strong)) where

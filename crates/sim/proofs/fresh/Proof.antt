@@ -4,9 +4,8 @@ use Prim.Native.Nat.{_*_}
 use lib.ListN.{length}
 use Rattle.world.specs.Rows.{rows}
 use Rattle.refusals.specs.declared.Checked.the-variants.{Accepted}
-use Rattle.rounds.proofs.Lending.{length-zeros}
 use Rattle.sim.specs.Calls.{checkFresh}
-use Rattle.sim.proofs.Passing.{Passed, passed-fresh, few, device-room}
+use Rattle.sim.proofs.Passing.{Passed, passed-fresh, few, front, device-room}
 use Rattle.sim.proofs.Answers.{fresh-done, fresh-refused}
 use borrow.Author.Needs.{needs}
 use Rattle.sim.proofs.fresh.Statement.{statement}
@@ -45,7 +44,7 @@ array-borrow-prefix-devices : tie.Need-array-borrow-prefix-devices
 array-borrow-prefix-devices c = let r = c .before in few _ _ (passed r .accepted) (r .rows .ensures)
 
 slice-aggregate-new-state : tie.Need-slice-aggregate-new-state
-slice-aggregate-new-state c = let r = c .before .before in sym (length-zeros _ 1024 (few _ _ (passed r .accepted) (r .rows .ensures)))
+slice-aggregate-new-state c = let r = c .before .before in front _ _ (passed r .accepted) (r .rows .ensures)
 
 new-state-requires : tie.Need-new-state-requires
 new-state-requires c κs =

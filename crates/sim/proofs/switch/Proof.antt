@@ -4,9 +4,8 @@ use lib.ListN.{length}
 use Rattle.refusals.specs.declared.Checked.the-variants.{Accepted}
 use Rattle.places.specs.Places.{cell}
 use Rattle.places.proofs.Signs.{back32}
-use Rattle.rounds.proofs.Lending.{length-zeros}
 use Rattle.sim.specs.Calls.{checkStep}
-use Rattle.sim.proofs.Passing.{Turned, passed-step, few, device-room, switch-ready, switch-outputs, switch-rounds, switch-stands}
+use Rattle.sim.proofs.Passing.{Turned, passed-step, few, front, device-room, switch-ready, switch-outputs, switch-rounds, switch-stands}
 use Rattle.sim.proofs.Answers.{switch-done, switch-refused}
 use borrow.Author.Needs.{needs}
 use Rattle.sim.proofs.switch.Statement.{statement}
@@ -59,7 +58,7 @@ array-borrow-prefix-devices : tie.Need-array-borrow-prefix-devices
 array-borrow-prefix-devices c = few _ _ (switch-ready (turned (c .before .before .before .before .before)) .accepted) (c .before .rows .ensures)
 
 slice-aggregate-settle-state : tie.Need-slice-aggregate-settle-state
-slice-aggregate-settle-state c = sym (length-zeros _ 1024 (few _ _ (switch-ready (turned (c .before .before .before .before .before .before)) .accepted) (c .before .before .rows .ensures)))
+slice-aggregate-settle-state c = front _ _ (switch-ready (turned (c .before .before .before .before .before .before)) .accepted) (c .before .before .rows .ensures)
 
 settle-state-requires : tie.Need-settle-state-requires
 settle-state-requires c κs =

@@ -2,10 +2,9 @@
 use mathlib.Core.Path.{_≡_, sym, _∙_}
 use lib.ListN.{length}
 use Rattle.refusals.specs.declared.Checked.the-variants.{Accepted}
-use Rattle.rounds.proofs.Lending.{length-zeros}
 use Rattle.sim.specs.State.{IsValidState}
 use Rattle.sim.specs.Calls.{checkTick}
-use Rattle.sim.proofs.Passing.{Passed, passed-tick, few, device-room}
+use Rattle.sim.proofs.Passing.{Passed, passed-tick, few, front, device-room}
 use Rattle.sim.proofs.Answers.{ticks-done, ticks-refused}
 use borrow.Author.Needs.{needs}
 use Rattle.sim.proofs.tick.Statement.{statement}
@@ -47,7 +46,7 @@ array-borrow-prefix-devices : tie.Need-array-borrow-prefix-devices
 array-borrow-prefix-devices c = let r = c .before in few _ _ (passed r .accepted) (r .rows .ensures)
 
 slice-aggregate-settle-ticks : tie.Need-slice-aggregate-settle-ticks
-slice-aggregate-settle-ticks c = let r = c .before .before in sym (length-zeros _ 1024 (few _ _ (passed r .accepted) (r .rows .ensures)))
+slice-aggregate-settle-ticks c = let r = c .before .before in front _ _ (passed r .accepted) (r .rows .ensures)
 
 settle-ticks-requires : tie.Need-settle-ticks-requires
 settle-ticks-requires c κs =

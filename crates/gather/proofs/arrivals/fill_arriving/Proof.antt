@@ -1,23 +1,22 @@
 -- `gather::arrivals::fill_arriving` meets its contract. The loop's invariant: the first i entries are the rule's. Assumes nothing.
 use borrow.Author.Needs.{needs}
-use Prim.Native.Nat.{_-_, _≤_}
-use native.Mathlib.Omega.{arith}
+use Prim.Native.Nat.{_-_}
 use lib.ListN.{length}
-use Rattle.columns.proofs.Columns.{Filled, filled-none, filled-more, filled-all}
 use Rattle.columns.specs.Column.{row}
+use Rattle.columns.proofs.Columns.{Filled, fills}
 use Rattle.network.specs.Levels.{arriving}
 use Rattle.gather.specs.Arrivals.{reaches}
 use Rattle.gather.proofs.arrivals.fill_arriving.Statement.{statement}
 use Rattle.gather.proofs.arrivals.fill_arriving.Tie as tie
 
 abbrev Inv-loop : tie.InvT-loop
-Inv-loop edge profile table levels out₀ i₀ i-end out i = (i ≤ length out₀) × Filled (arriving (length levels) (reaches edge profile table) (row levels)) (length out₀) i out
+Inv-loop edge profile table levels out₀ i₀ i-end out i = Filled (arriving (length levels) (reaches edge profile table) (row levels)) (length out₀) i out
 
 abbrev μ-loop : tie.MeasureT-loop
 μ-loop edge profile table levels out₀ i₀ i-end out i = length out₀ - i
 
 loop-holds : tie.Need-loop-holds Inv-loop μ-loop
-loop-holds c = (omega arith, filled-none (search needs))
+loop-holds c = search (fills, needs)
 
 arriving-requires : tie.Need-arriving-requires Inv-loop μ-loop
 arriving-requires c κs = search needs
@@ -32,13 +31,13 @@ loop-less : tie.Need-loop-less Inv-loop μ-loop
 loop-less c = search needs
 
 loop-again : tie.Need-loop-again Inv-loop μ-loop
-loop-again c = (omega arith, filled-more (c .before .before .loop .inv .1) (omega arith) (c .arriving .ensures))
+loop-again c = search (fills, needs)
 
 same-length : tie.Need-same-length Inv-loop μ-loop
 same-length c = search needs
 
 returns : tie.Need-returns Inv-loop μ-loop
-returns c = filled-all (c .before .loop .inv .1) (omega arith)
+returns c = search (fills, needs)
 
 pub fill-arriving-spec : {M : Type 1} → statement M
 fill-arriving-spec =

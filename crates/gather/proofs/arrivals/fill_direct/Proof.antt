@@ -1,22 +1,20 @@
 -- `gather::arrivals::fill_direct` meets its contract. The loop's invariant: the first i entries are the rule's. Assumes nothing.
 use borrow.Author.Needs.{needs}
-use Prim.Native.Nat.{_-_, _≤_}
-use native.Mathlib.Omega.{arith}
+use Prim.Native.Nat.{_-_}
 use lib.ListN.{length}
-use Rattle.columns.proofs.Columns.{Filled, filled-none, filled-more, filled-all}
-use mathlib.Core.Path.{_∙_}
+use Rattle.columns.proofs.Columns.{Filled, fills}
 use Rattle.gather.specs.Arrivals.{directAt}
 use Rattle.gather.proofs.arrivals.fill_direct.Statement.{statement}
 use Rattle.gather.proofs.arrivals.fill_direct.Tie as tie
 
 abbrev Inv-loop : tie.InvT-loop
-Inv-loop profile table emitted charged out₀ i₀ i-end out i = (i ≤ length out₀) × Filled (directAt profile table emitted charged) (length out₀) i out
+Inv-loop profile table emitted charged out₀ i₀ i-end out i = Filled (directAt profile table emitted charged) (length out₀) i out
 
 abbrev μ-loop : tie.MeasureT-loop
 μ-loop profile table emitted charged out₀ i₀ i-end out i = length out₀ - i
 
 loop-holds : tie.Need-loop-holds Inv-loop μ-loop
-loop-holds c = (omega arith, filled-none (search needs))
+loop-holds c = search (fills, needs)
 
 arriving-requires : tie.Need-arriving-requires Inv-loop μ-loop
 arriving-requires c κs = search needs
@@ -37,13 +35,13 @@ loop-less : tie.Need-loop-less Inv-loop μ-loop
 loop-less c = search needs
 
 loop-again : tie.Need-loop-again Inv-loop μ-loop
-loop-again c = (omega arith, filled-more (c .before .before .before .before .loop .inv .1) (omega arith) (c .larger .ensures ∙ rw (c .before .before .arriving .ensures, c .before .arriving2 .ensures)))
+loop-again c = let direct = rw (c .before .before .arriving .ensures, c .before .arriving2 .ensures) at (c .larger .ensures) in search (fills, needs)
 
 same-length : tie.Need-same-length Inv-loop μ-loop
 same-length c = search needs
 
 returns : tie.Need-returns Inv-loop μ-loop
-returns c = filled-all (c .before .loop .inv .1) (omega arith)
+returns c = search (fills, needs)
 
 pub fill-direct-spec : {M : Type 1} → statement M
 fill-direct-spec =

@@ -1,23 +1,21 @@
 -- `gather::arrivals::fill_emitted` meets its contract. The loop's invariant: the first i rows are the rule's. Assumes nothing.
 use borrow.Author.Needs.{needs}
-use mathlib.Core.Path.{_∙_}
-use Prim.Native.Nat.{_-_, _≤_}
-use native.Mathlib.Omega.{arith}
+use Prim.Native.Nat.{_-_}
 use lib.ListN.{length}
 use Rattle.columns.specs.Column.{row}
-use Rattle.columns.proofs.Columns.{Filled, filled-none, filled-more, filled-all}
+use Rattle.columns.proofs.Columns.{Filled, fills}
 use Rattle.electrical.specs.Emitted.{emittedLevel}
 use Rattle.gather.proofs.arrivals.fill_emitted.Statement.{statement}
 use Rattle.gather.proofs.arrivals.fill_emitted.Tie as tie
 
 abbrev Inv-loop : tie.InvT-loop
-Inv-loop table devices out₀ i₀ i-end out i = (i ≤ length out₀) × Filled (λ k. emittedLevel table k (row devices k)) (length out₀) i out
+Inv-loop table devices out₀ i₀ i-end out i = Filled (λ k. emittedLevel table k (row devices k)) (length out₀) i out
 
 abbrev μ-loop : tie.MeasureT-loop
 μ-loop table devices out₀ i₀ i-end out i = length out₀ - i
 
 loop-holds : tie.Need-loop-holds Inv-loop μ-loop
-loop-holds c = (omega arith, filled-none (search needs))
+loop-holds c = search (fills, needs)
 
 byte-at-requires : tie.Need-byte-at-requires Inv-loop μ-loop
 byte-at-requires c κs = search needs
@@ -35,13 +33,13 @@ loop-less : tie.Need-loop-less Inv-loop μ-loop
 loop-less c = search needs
 
 loop-again : tie.Need-loop-again Inv-loop μ-loop
-loop-again c = (omega arith, filled-more (c .before .before .before .loop .inv .1) (omega arith) (c .component-output-level .ensures ∙ rw (c .before .byte-at .ensures)))
+loop-again c = let emitted = rw (c .before .byte-at .ensures) at (c .component-output-level .ensures) in search (fills, needs)
 
 same-length : tie.Need-same-length Inv-loop μ-loop
 same-length c = search needs
 
 returns : tie.Need-returns Inv-loop μ-loop
-returns c = filled-all (c .before .loop .inv .1) (omega arith)
+returns c = search (fills, needs)
 
 pub fill-emitted-spec : {M : Type 1} → statement M
 fill-emitted-spec =

@@ -1,22 +1,20 @@
 -- `gather::slots::fill_feeders` meets its contract. The loop's invariant: the first m entries are the rule's. Assumes nothing.
 use borrow.Author.Needs.{needs}
-use Prim.Native.Nat.{_-_, _≤_}
-use native.Mathlib.Omega.{arith}
+use Prim.Native.Nat.{_-_, _/_, _%_}
 use lib.ListN.{length}
-use Rattle.columns.proofs.Columns.{Filled, filled-none, filled-more, filled-all}
-use Prim.Native.Nat.{_/_, _%_}
+use Rattle.columns.proofs.Columns.{Filled, fills}
 use Rattle.gather.specs.Slots.{feederAt}
 use Rattle.gather.proofs.slots.fill_feeders.Statement.{statement}
 use Rattle.gather.proofs.slots.fill_feeders.Tie as tie
 
 abbrev Inv-loop : tie.InvT-loop
-Inv-loop profile table out₀ m₀ m-end out m = (m ≤ length out₀) × Filled (λ k. feederAt profile table (k / 12) (k % 12)) (length out₀) m out
+Inv-loop profile table out₀ m₀ m-end out m = Filled (λ k. feederAt profile table (k / 12) (k % 12)) (length out₀) m out
 
 abbrev μ-loop : tie.MeasureT-loop
 μ-loop profile table out₀ m₀ m-end out m = length out₀ - m
 
 loop-holds : tie.Need-loop-holds Inv-loop μ-loop
-loop-holds c = (omega arith, filled-none (search needs))
+loop-holds c = search (fills, needs)
 
 cast-feeder-at : tie.Need-cast-feeder-at Inv-loop μ-loop
 cast-feeder-at c = search needs
@@ -37,13 +35,13 @@ loop-less : tie.Need-loop-less Inv-loop μ-loop
 loop-less c = search needs
 
 loop-again : tie.Need-loop-again Inv-loop μ-loop
-loop-again c = (omega arith, filled-more (c .before .before .loop .inv .1) (omega arith) (c .feeder-at .ensures))
+loop-again c = search (fills, needs)
 
 same-length : tie.Need-same-length Inv-loop μ-loop
 same-length c = search needs
 
 returns : tie.Need-returns Inv-loop μ-loop
-returns c = filled-all (c .before .loop .inv .1) (omega arith)
+returns c = search (fills, needs)
 
 pub fill-feeders-spec : {M : Type 1} → statement M
 fill-feeders-spec =

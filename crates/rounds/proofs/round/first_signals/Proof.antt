@@ -1,21 +1,20 @@
 -- `rounds::round::first_signals` meets its contract. The loop's invariant: the first i rows are the rule's. Assumes nothing.
 use borrow.Author.Needs.{needs}
-use Prim.Native.Nat.{_-_, _≤_}
-use native.Mathlib.Omega.{arith}
+use Prim.Native.Nat.{_-_}
 use lib.ListN.{length}
-use Rattle.columns.proofs.Columns.{Filled, filled-none, filled-more, filled-all}
+use Rattle.columns.proofs.Columns.{Filled, fills}
 use Rattle.rounds.specs.Rounds.{firstSignal}
 use Rattle.rounds.proofs.round.first_signals.Statement.{statement}
 use Rattle.rounds.proofs.round.first_signals.Tie as tie
 
 abbrev Inv-loop : tie.InvT-loop
-Inv-loop table emitted out₀ i₀ i-end out i = (i ≤ length out₀) × Filled (firstSignal table emitted) (length out₀) i out
+Inv-loop table emitted out₀ i₀ i-end out i = Filled (firstSignal table emitted) (length out₀) i out
 
 abbrev μ-loop : tie.MeasureT-loop
 μ-loop table emitted out₀ i₀ i-end out i = length out₀ - i
 
 loop-holds : tie.Need-loop-holds Inv-loop μ-loop
-loop-holds c = (omega arith, filled-none (search needs))
+loop-holds c = search (fills, needs)
 
 first-signal-requires : tie.Need-first-signal-requires Inv-loop μ-loop
 first-signal-requires c κs = search needs
@@ -30,13 +29,13 @@ loop-less : tie.Need-loop-less Inv-loop μ-loop
 loop-less c = search needs
 
 loop-again : tie.Need-loop-again Inv-loop μ-loop
-loop-again c = (omega arith, filled-more (c .before .before .loop .inv .1) (omega arith) (c .first-signal .ensures))
+loop-again c = search (fills, needs)
 
 same-length : tie.Need-same-length Inv-loop μ-loop
 same-length c = search needs
 
 returns : tie.Need-returns Inv-loop μ-loop
-returns c = filled-all (c .before .loop .inv .1) (omega arith)
+returns c = search (fills, needs)
 
 pub first-signals-spec : {M : Type 1} → statement M
 first-signals-spec =

@@ -1,21 +1,20 @@
 -- `rounds::round::next_weaks` meets its contract. The loop's invariant: the first i rows are the rule's. Assumes nothing.
 use borrow.Author.Needs.{needs}
-use Prim.Native.Nat.{_-_, _≤_}
-use native.Mathlib.Omega.{arith}
+use Prim.Native.Nat.{_-_}
 use lib.ListN.{length}
-use Rattle.columns.proofs.Columns.{Filled, filled-none, filled-more, filled-all}
+use Rattle.columns.proofs.Columns.{Filled, fills}
 use Rattle.rounds.specs.Rounds.{nextWeak}
 use Rattle.rounds.proofs.round.next_weaks.Statement.{statement}
 use Rattle.rounds.proofs.round.next_weaks.Tie as tie
 
 abbrev Inv-loop : tie.InvT-loop
-Inv-loop base unders signal out₀ i₀ i-end out i = (i ≤ length out₀) × Filled (nextWeak base unders signal) (length out₀) i out
+Inv-loop base unders signal out₀ i₀ i-end out i = Filled (nextWeak base unders signal) (length out₀) i out
 
 abbrev μ-loop : tie.MeasureT-loop
 μ-loop base unders signal out₀ i₀ i-end out i = length out₀ - i
 
 loop-holds : tie.Need-loop-holds Inv-loop μ-loop
-loop-holds c = (omega arith, filled-none (search needs))
+loop-holds c = search (fills, needs)
 
 next-weak-requires : tie.Need-next-weak-requires Inv-loop μ-loop
 next-weak-requires c κs = search needs
@@ -30,13 +29,13 @@ loop-less : tie.Need-loop-less Inv-loop μ-loop
 loop-less c = search needs
 
 loop-again : tie.Need-loop-again Inv-loop μ-loop
-loop-again c = (omega arith, filled-more (c .before .before .loop .inv .1) (omega arith) (c .next-weak .ensures))
+loop-again c = search (fills, needs)
 
 same-length : tie.Need-same-length Inv-loop μ-loop
 same-length c = search needs
 
 returns : tie.Need-returns Inv-loop μ-loop
-returns c = filled-all (c .before .loop .inv .1) (omega arith)
+returns c = search (fills, needs)
 
 pub next-weaks-spec : {M : Type 1} → statement M
 next-weaks-spec =

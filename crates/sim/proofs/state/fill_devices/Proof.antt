@@ -1,58 +1,48 @@
 -- `sim::state::fill_devices` meets its contract. The loop's invariant: the bytes of the rows passed are there. Assumes nothing.
-use mathlib.Core.Path.{_≡_, sym, _∙_}
-use Prim.Native.Nat.{ℕ, _-_, _≤_}
+use borrow.Author.Needs.{needs}
+use Prim.Native.Nat.{_-_}
 use native.Mathlib.Omega.{arith}
-use Rattle.columns.specs.Column.{Bytes}
-use Rattle.columns.proofs.Columns.{Filled, filled-none, filled-more, filled-all}
-use Rattle.world.specs.Rows.{rows}
+use lib.ListN.{length}
+use Rattle.columns.proofs.Columns.{Filled, filled-more, fills}
 use Rattle.states.specs.Row.{deviceOf}
 use Rattle.sim.specs.State.{sixteen, devicesOf}
 use Rattle.sim.proofs.Turns.{device-at}
-use borrow.Author.Needs.{needs}
 use Rattle.sim.proofs.state.fill_devices.Statement.{statement}
 use Rattle.sim.proofs.state.fill_devices.Tie as tie
 
-abbrev device : Bytes → ℕ → ℕ
-device st i = deviceOf (sixteen st i)
-
 abbrev Inv-loop : tie.InvT-loop
-Inv-loop table state devices₀ n i₀ devices i = (n ≡ rows table) × (i ≤ n) × Filled (device state) n i devices
+Inv-loop table state devices₀ i₀ i-end devices i = Filled (λ k. deviceOf (sixteen state k)) (length devices₀) i devices
 
 abbrev μ-loop : tie.MeasureT-loop
-μ-loop table state devices₀ n i₀ devices i = n - i
-
-rows-requires : tie.Need-rows-requires Inv-loop μ-loop
-rows-requires c κs = search needs
+μ-loop table state devices₀ i₀ i-end devices i = length devices₀ - i
 
 loop-holds : tie.Need-loop-holds Inv-loop μ-loop
-loop-holds c = (c .rows .ensures, omega arith, filled-none (c .before .before .before .before .pre .1 ∙ sym (c .rows .ensures)))
+loop-holds c = search (fills, needs)
 
 mul-byte-at : tie.Need-mul-byte-at Inv-loop μ-loop
-mul-byte-at c = omega arith
+mul-byte-at c = search needs
 
 byte-at-requires : tie.Need-byte-at-requires Inv-loop μ-loop
 byte-at-requires c κs = search needs
 
 slice-write-devices : tie.Need-slice-write-devices Inv-loop μ-loop
-slice-write-devices c = omega arith
+slice-write-devices c = search needs
 
 add-i : tie.Need-add-i Inv-loop μ-loop
-add-i c = omega arith
+add-i c = search needs
 
 loop-less : tie.Need-loop-less Inv-loop μ-loop
-loop-less c = omega arith
+loop-less c = search needs
 
 loop-again : tie.Need-loop-again Inv-loop μ-loop
-loop-again c =
-    let l = c .before .before in
-    (l .loop .inv .0, omega arith, filled-more (l .loop .inv .2) (omega arith) (c .byte-at .ensures ∙ sym (device-at (c .before .before .before .before .before .before .before .args .state .now) (l .loop .i))))
+loop-again c = filled-more (c .before .before .loop .inv) (omega arith) (rw device-at (c .byte-at .ensures))
 
 same-length : tie.Need-same-length Inv-loop μ-loop
-same-length c = omega arith
+same-length c = search needs
 
 returns : tie.Need-returns Inv-loop μ-loop
 unfolding devicesOf
-returns c = let l = c .before in rw (← l .loop .inv .0) (filled-all (l .loop .inv .2) (omega arith))
+returns c = rw (← c .before .before .before .before .before .pre .1) (search (fills, needs))
 
 pub fill-devices-spec : {M : Type 1} → statement M
 fill-devices-spec =
@@ -60,7 +50,6 @@ fill-devices-spec =
     (tie.spec
     Inv-loop
     μ-loop
-    rows-requires
     loop-holds
     mul-byte-at
     byte-at-requires

@@ -1,16 +1,14 @@
 -- `sim::state::fill_fresh` meets its contract. The loop's invariant: the rows passed are fresh. Assumes nothing.
-use mathlib.Core.Path.{_≡_, sym, ap, _∙_}
-use Prim.Native.Nat.{_*_, _-_}
-use native.Mathlib.Omega.{arith}
-use Rattle.world.specs.Rows.{rows}
-use Rattle.states.specs.Fresh.{powersOf, freshRow}
-use Rattle.sim.proofs.Turns.{Turns, turns-none, turns-room, turns-more, turns-all}
 use borrow.Author.Needs.{needs}
+use Prim.Native.Nat.{_-_}
+use native.Mathlib.Omega.{arith}
+use Rattle.states.specs.Fresh.{powersOf, freshRow}
+use Rattle.sim.proofs.Turns.{Turns, turns-all, turning}
 use Rattle.sim.proofs.state.fill_fresh.Statement.{statement}
 use Rattle.sim.proofs.state.fill_fresh.Tie as tie
 
 abbrev Inv-loop : tie.InvT-loop
-Inv-loop table weak strong state₀ n i₀ state i = (n ≡ rows table) × Turns (freshRow table (powersOf weak strong)) state₀ n i state
+Inv-loop table weak strong state₀ n i₀ state i = Turns (λ k _. freshRow table (powersOf weak strong) k) table state₀ n i state
 
 abbrev μ-loop : tie.MeasureT-loop
 μ-loop table weak strong state₀ n i₀ state i = n - i
@@ -19,7 +17,7 @@ rows-requires : tie.Need-rows-requires Inv-loop μ-loop
 rows-requires c κs = search needs
 
 loop-holds : tie.Need-loop-holds Inv-loop μ-loop
-loop-holds c = (c .rows .ensures, turns-none (c .before .before .before .before .before .pre ∙ ap (λ k. k * 16) (sym (c .rows .ensures))))
+loop-holds c = search (turning, needs)
 
 mul-start : tie.Need-mul-start Inv-loop μ-loop
 mul-start c = omega arith
@@ -37,7 +35,7 @@ part-fresh-step-end : tie.Need-part-fresh-step-end Inv-loop μ-loop
 part-fresh-step-end c = omega arith
 
 fresh-step-requires : tie.Need-fresh-step-requires Inv-loop μ-loop
-fresh-step-requires c κs = turns-room (c .before .before .loop .inv .1) (omega arith)
+fresh-step-requires c κs = search (turning, needs)
 
 add-i : tie.Need-add-i Inv-loop μ-loop
 add-i c = omega arith
@@ -46,16 +44,13 @@ loop-less : tie.Need-loop-less Inv-loop μ-loop
 loop-less c = omega arith
 
 loop-again : tie.Need-loop-again Inv-loop μ-loop
-loop-again c =
-    let l = c .before .before .before .before .before in
-    let step = c .before .before .fresh-step in
-    (l .loop .inv .0, turns-more (l .loop .inv .1) (omega arith) (step .ensures) (step .kept .1 .1 .1 .1 .0))
+loop-again c = search (turning, needs)
 
 same-length : tie.Need-same-length Inv-loop μ-loop
 same-length c = omega arith
 
 returns : tie.Need-returns Inv-loop μ-loop
-returns c = let l = c .before in rw (← l .loop .inv .0) (turns-all (l .loop .inv .1) (omega arith))
+returns c = turns-all (c .before .loop .inv) (omega arith)
 
 pub fill-fresh-spec : {M : Type 1} → statement M
 fill-fresh-spec =
