@@ -3,7 +3,6 @@
 use mathlib.Core.Path.{_≡_, sym, _∙_}
 use mathlib.Core.Bool.{_&&_}
 use Prim.Native.Nat.{ℕ, _*_, _≤_}
-use native.Mathlib.Omega.{arith}
 use lib.ListN.{length, take, replicate}
 use lib.Dec.{eqb}
 use borrow.Author.Tests.{eqb-true}
@@ -17,7 +16,7 @@ use Rattle.refusals.proofs.Passed.{passed-unless, passed-both}
 use Rattle.refusals.proofs.Accepted.{accepted-input}
 use Rattle.electrical.specs.Answer.{roundsOf, goodColumns}
 use Rattle.rounds.specs.Prepared.{Outputs}
-use Rattle.rounds.proofs.Lending.{outputs, length-zeros}
+use Rattle.rounds.proofs.Lending.{outputs, length-zeros, fits}
 use Rattle.wire.proofs.Alike.{same-rows}
 use Rattle.sim.specs.State.{devicesOf, IsValidState, checkState}
 use Rattle.sim.specs.Running.{Room, Ready, Stands}
@@ -59,7 +58,7 @@ module _ (p t st : Bytes) (signal weak strong : Column) where
 
 module _ (p t : Bytes) {n : ℕ} (a : IsAccepted p t) (e : n ≡ rows t) where
   pub few : n ≤ 1024
-  few = omega (arith, accepted-input p t a .1 .few)
+  few = fits (accepted-input p t a .1) n e
 
   -- as long as it was taken
   pub front : n ≡ length (take {A = ℕ} n (replicate 1024 0))
