@@ -29,7 +29,7 @@ outputs t signal weak strong h =
 pub length-zeros : (n m : ℕ) → n ≤ m → length (take {A = ℕ} n (replicate m 0)) ≡ n
 length-zeros n m h = length-take-le n (replicate m 0) (rw (length-replicate {A = ℕ} m 0) h)
 
--- w entries a row of an accepted table
+-- n entries, one a row of an accepted table
 module _ {t : Bytes} (accepted : Table t) (n : ℕ) (is : n ≡ rows t) where
   pub fits : n ≤ 1024
   fits = omega (arith, accepted .few)
