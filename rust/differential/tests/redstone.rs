@@ -40,7 +40,7 @@ mod compared {
 
     #[test]
     fn settling_agrees_at_every_limit() {
-        let compared = run(good_cases(1_000), |case, tally| {
+        let compared = run(good_cases(10_000), |case, tally| {
             let oracle = Oracle::new(case);
             compare(settle_at_every_limit(&oracle), &oracle, &Probe(case), tally)
         });
