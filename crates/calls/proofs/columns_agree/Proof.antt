@@ -30,7 +30,7 @@ same-requires-3 c κs = search needs
 
 returns : tie.Need-returns
 unfolding columnsAgree
-returns c = cc
+returns c = rw (c .before .before .before .before .same .ensures, c .before .before .before .before .before .slice-of .ensures, c .before .before .same2 .ensures, c .before .before .before .slice-of2 .ensures, c .same3 .ensures, c .before .slice-of3 .ensures)
 
 pub columns-agree-spec : {M : Type 1} → statement M
 columns-agree-spec =
