@@ -2,13 +2,13 @@
 -- Assumes nothing.
 use mathlib.Core.Bool.{Bool, cond, _&&_}
 use Prim.Native.Nat.{ℕ, _*_, _/_, _%_}
-use lib.ListN.{length, getD, drop, replicate}
+use lib.ListN.{length, getD, replicate}
 use lib.Dec.{eqb, leb, ltb}
 use Rattle.columns.specs.Column.{Bytes, Column, row, atFront, same}
 use Rattle.columns.specs.First.{allBelow}
 use Rattle.places.specs.declared.Pos.{Pos}
 use Rattle.places.specs.Places.{samePos, offset}
-use Rattle.world.specs.Rows.{rows, posOf}
+use Rattle.world.specs.Rows.{rows}
 use Rattle.world.specs.Find.{find, kindAt}
 use Rattle.world.specs.Traits.{traits}
 use Rattle.world.specs.Names.{shapeOfName}

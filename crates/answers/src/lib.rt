@@ -4,6 +4,7 @@ pub mod right;
 use columns::byte_at;
 use columns::same;
 use places::Pos;
+use records::MOST_BYTES;
 use records::copied;
 use records::entry;
 ghost use mathlib.Core.Path.{_≡_};
@@ -195,7 +196,7 @@ pub fn redraw_agrees(profile: &[u8], table: &[u8], want: &[u8], answer: u32) -> 
     ensures { λ r. ⌜ r ≡ redrawAgrees (now (profile .entry)) (now (table .entry)) (now (want .entry)) answer ⌝ }
 {
     let bytes = table.len();
-    if 2048 < bytes {
+    if MOST_BYTES < bytes {
         return false;
     }
     let mut redrawn = copied(table);

@@ -1,6 +1,7 @@
 // Whether the editor's four calls answer and write as the original did. Each function takes a record of its operation, makes the call that
 // it tells of, and compares the answer and every byte of every buffer with the recorded ones.
 use columns::same;
+use records::MOST_BYTES;
 use records::after;
 use records::copied;
 use records::has_parts;
@@ -16,23 +17,21 @@ ghost use Rattle.calls.specs.Calls.{wellFormed, wellFormedTicks, columns
 // What every byte of a buffer that a call is to fill is before it.
 const BLANK: u8 = 195;
 
-// The bytes of a table of the most rows.
-const MOST: usize = 2048;
-
+// The most ticks that a record asks for.
 const MOST_TICKS: u32 = 1000;
 
 // Whether a record has so many slices and bytes after them, and a table of at most the most rows.
 fn well_formed(r: &[u8], slices: u8, rest: usize) -> bool
     ensures { λ b. ⌜ b ≡ wellFormed (now (r .entry)) slices rest ⌝ }
 {
-    has_parts(r, slices, rest) & (slice_of(r, 1).len() <= MOST)
+    has_parts(r, slices, rest) & (slice_of(r, 1).len() <= MOST_BYTES)
 }
 
 // Whether a record of ticks is well formed, and asks for no more of them than the most.
 fn well_formed_ticks(r: &[u8]) -> bool
     ensures { λ b. ⌜ b ≡ wellFormedTicks (now (r .entry)) ⌝ }
 {
-    well_formed(r, 7, 12) & ((slice_of(r, 2).len() <= MOST) & (number(r, 7, 4) <= MOST_TICKS))
+    well_formed(r, 7, 12) & ((slice_of(r, 2).len() <= MOST_BYTES) & (number(r, 7, 4) <= MOST_TICKS))
 }
 
 // Whether the columns are slices k to k + 2.
@@ -44,6 +43,7 @@ fn columns_agree(r: &[u8], k: u8, signal: &[u8], weak: &[u8], strong: &[u8]) -> 
         & (same(weak, slice_of(r, k + 1)) & same(strong, slice_of(r, k + 2)))
 }
 
+// Settles in these columns, and compares.
 fn settle_in(r: &[u8], signal: &mut [u8], weak: &mut [u8], strong: &mut [u8]) -> bool
     ensures { λ b. ⌜ b ≡ settleIn (now (r .entry)) (now (signal .entry)) (now (weak .entry)) (now (strong .entry)) ⌝ }
 {
@@ -73,6 +73,7 @@ pub fn settle_right(r: &[u8]) -> bool
     false
 }
 
+// Fills this state and these columns, and compares.
 fn fresh_in(
     r: &[u8],
     state: &mut [u8],
@@ -115,6 +116,7 @@ pub fn fresh_right(r: &[u8]) -> bool
     false
 }
 
+// Makes the ticks from this state, and compares.
 fn ticks_in(
     r: &[u8],
     state: &mut [u8],
@@ -161,6 +163,7 @@ pub fn ticks_right(r: &[u8]) -> bool
     false
 }
 
+// Throws the switch in this table, and compares.
 fn switch_in(
     r: &[u8],
     table: &mut [u8],

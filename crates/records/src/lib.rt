@@ -8,6 +8,9 @@ ghost use lib.ListN.{take, drop};
 ghost use lib.IntN.{ℤ};
 ghost use Rattle.records.specs.Record.{half, word, long, entry, posAt, partsFrom, after, sliceOf, number, hasParts, copied};
 
+// The bytes of a table of the most rows.
+pub const MOST_BYTES: usize = 2048;
+
 // What stands from an index on.
 pub fn from(s: &[u8], at: usize) -> &[u8]
     ensures { λ r. ⌜ now r ≡ drop at (now (s .entry)) ⌝ }
@@ -124,12 +127,12 @@ pub fn has_parts(s: &[u8], slices: u8, rest: usize) -> bool
 }
 
 // The bytes of a slice in an array for a table of the most rows, for a call to change.
-pub fn copied(s: &[u8]) -> [u8; 2048]
+pub fn copied(s: &[u8]) -> [u8; MOST_BYTES]
     ensures { λ a. ⌜ a ≡ copied (now (s .entry)) ⌝ }
 {
-    let mut a = [0u8; 2048];
+    let mut a = [0u8; MOST_BYTES];
     let mut i = 0;
-    while i < 2048 {
+    while i < MOST_BYTES {
         a[i] = byte_at(s, i);
         i += 1;
     }

@@ -39,8 +39,10 @@ same-length-4 c = search needs
 
 returns : tie.Need-returns
 returns c =
-    let called = rw (c .before .before .before .before .before .before .before .before .before .before .before .before .before .before .before .before .before .before .before .before .before .before .slice-of .ensures, c .before .before .before .before .before .before .before .before .before .before .before .before .before .before .before .before .before .before .before .before .before .slice-of2 .ensures) at (c .before .before .before .before .before .before .before .before .before .before .before .before .before .before .before .before .redstone-fresh .ensures) in
-    rw (c .columns-agree .ensures, c .before .before .before .before .same .ensures, c .before .before .before .before .before .slice-of3 .ensures, c .before .before .before .before .before .before .before .number .ensures) (fresh-agrees (c .before .before .before .before .before .before .before .before .before .before .before .before .before .before .before .before .before .before .before .before .before .before .before .before .before .before .before .before .args .r .now) called)
+    let called = c .before .before .before .before .before .before .before .before .before .before .before .before .before .before .before .before in
+    let read = called .before .before .before .before .before in
+    let fresh = rw (read .before .slice-of .ensures, read .slice-of2 .ensures) at (called .redstone-fresh .ensures) in
+    rw (c .columns-agree .ensures, c .before .before .before .before .same .ensures, c .before .before .before .before .before .slice-of3 .ensures, c .before .before .before .before .before .before .before .number .ensures) (fresh-agrees (read .before .before .before .before .before .before .before .args .r .now) fresh)
 
 pub fresh-in-spec : {M : Type 1} → statement M
 fresh-in-spec =

@@ -49,14 +49,19 @@ same-length-3 c = search needs
 same-length-4 : tie.Need-same-length-4
 same-length-4 c = search needs
 
+-- the coordinates of the position fit
+fits : (c : tie.After-pos-at) → SFits w32 (c .pos-at .result .x) × SFits w32 (c .pos-at .result .y) × SFits w32 (c .pos-at .result .z)
+fits c = (search needs, search needs, search needs)
+
 returns : tie.Need-returns
 returns c =
-    let q = c .before .before .before .before .before .before .before .before .before .before .before .before .before .before .before .before .before .before .before .before .before .before .before .before .before .before .before .pos-at .result in
-    let fx : SFits w32 (q .x) = search needs in
-    let fy : SFits w32 (q .y) = search needs in
-    let fz : SFits w32 (q .z) = search needs in
-    let called = rw (c .before .before .before .before .before .before .before .before .before .before .before .before .before .before .before .before .before .before .before .before .before .before .before .before .before .before .slice-of .ensures, c .before .before .before .before .before .before .before .before .before .before .before .before .before .before .before .before .before .before .before .before .before .before .before .before .slice-of2 .ensures, c .before .before .before .before .before .before .before .before .before .before .before .before .before .before .before .before .before .before .before .before .before .before .before .number .ensures, back32 (q .x) fx, back32 (q .y) fy, back32 (q .z) fz, c .before .before .before .before .before .before .before .before .before .before .before .before .before .before .before .before .before .before .before .before .before .before .before .before .before .before .before .pos-at .ensures, c .before .before .before .before .before .before .before .before .before .before .before .before .before .before .before .before .before .before .before .before .before .before .before .before .before .before .before .before .after .ensures) at (c .before .before .before .before .before .before .before .before .before .before .before .before .before .before .before .before .redstone-switch .ensures) in
-    rw (c .columns-agree .ensures, c .before .before .before .before .same .ensures, c .before .before .before .before .before .slice-of3 .ensures, c .before .before .before .before .before .before .before .number2 .ensures) (switch-agrees (c .before .before .before .before .before .before .before .before .before .before .before .before .before .before .before .before .before .before .before .before .before .before .before .before .before .before .before .before .before .before .before .before .before .before .args .r .now) called)
+    let called = c .before .before .before .before .before .before .before .before .before .before .before .before .before .before .before .before in
+    let read = called .before .before .before .before .before .before .before in
+    let place = read .before .before .before .before in
+    let q = place .pos-at .result in
+    let fit = fits place in
+    let switches = rw (read .before .before .before .slice-of .ensures, read .before .slice-of2 .ensures, read .number .ensures, back32 (q .x) (fit .0), back32 (q .y) (fit .1), back32 (q .z) (fit .2), place .pos-at .ensures, place .before .after .ensures) at (called .redstone-switch .ensures) in
+    rw (c .columns-agree .ensures, c .before .before .before .before .same .ensures, c .before .before .before .before .before .slice-of3 .ensures, c .before .before .before .before .before .before .before .number2 .ensures) (switch-agrees (read .before .before .before .before .before .before .before .before .before .before .before .args .r .now) switches)
 
 pub switch-in-spec : {M : Type 1} → statement M
 switch-in-spec =

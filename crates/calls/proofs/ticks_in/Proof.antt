@@ -45,8 +45,10 @@ same-length-4 c = search needs
 
 returns : tie.Need-returns
 returns c =
-    let called = rw (c .before .before .before .before .before .before .before .before .before .before .before .before .before .before .before .before .before .before .before .before .before .before .before .before .slice-of .ensures, c .before .before .before .before .before .before .before .before .before .before .before .before .before .before .before .before .before .before .before .before .before .before .before .slice-of2 .ensures, c .before .before .before .before .before .before .before .before .before .before .before .before .before .before .before .before .before .before .before .before .before .number .ensures, c .before .before .before .before .before .before .before .before .before .before .before .before .before .before .before .before .before .before .before .before .number2 .ensures) at (c .before .before .before .before .before .before .before .before .before .before .before .before .before .before .before .before .redstone-tick .ensures) in
-    rw (c .columns-agree .ensures, c .before .before .before .before .same .ensures, c .before .before .before .before .before .slice-of3 .ensures, c .before .before .before .before .before .before .before .number3 .ensures) (ticks-agree (c .before .before .before .before .before .before .before .before .before .before .before .before .before .before .before .before .before .before .before .before .before .before .before .before .before .before .before .before .before .before .args .r .now) called)
+    let called = c .before .before .before .before .before .before .before .before .before .before .before .before .before .before .before .before in
+    let read = called .before .before .before .before in
+    let ticks = rw (read .before .before .before .before .slice-of .ensures, read .before .before .before .slice-of2 .ensures, read .before .number .ensures, read .number2 .ensures) at (called .redstone-tick .ensures) in
+    rw (c .columns-agree .ensures, c .before .before .before .before .same .ensures, c .before .before .before .before .before .slice-of3 .ensures, c .before .before .before .before .before .before .before .number3 .ensures) (ticks-agree (read .before .before .before .before .before .before .before .before .before .before .args .r .now) ticks)
 
 pub ticks-in-spec : {M : Type 1} → statement M
 ticks-in-spec =
