@@ -6,7 +6,7 @@ use Prim.Native.Nat.{ℕ}
 use lib.Dec.{eqb}
 use Rattle.columns.specs.Column.{Bytes, Column, same}
 use Rattle.electrical.specs.Answer.{Settles}
-use Rattle.sim.specs.Calls.{Fresh, Ticks, Switches}
+use Rattle.updates.specs.Calls.{Fresh, Ticks, Switches}
 use Rattle.records.specs.Record.{posAt, after, sliceOf, number}
 use Rattle.calls.specs.Calls.{columnsAgree, settleIn, freshIn, ticksIn, switchIn}
 

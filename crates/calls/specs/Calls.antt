@@ -11,9 +11,9 @@ use Rattle.world.specs.Rows.{rows}
 use Rattle.refusals.specs.declared.Checked.{Checked}
 use Rattle.refusals.specs.Check.{answerOf, written}
 use Rattle.electrical.specs.Answer.{roundsOf, settled, checkSettle}
-use Rattle.sim.specs.State.{devicesOf, freshDevices, freshState}
-use Rattle.sim.specs.Tick.{ticks}
-use Rattle.sim.specs.Calls.{checkFresh, checkStep, checkTick, switched}
+use Rattle.updates.specs.State.{devicesOf, freshDevices, freshState}
+use Rattle.updates.specs.Tick.{ticks}
+use Rattle.updates.specs.Calls.{checkFresh, checkStep, checkTick, switched}
 use Rattle.records.specs.Record.{posAt, after, sliceOf, number, hasParts, isSmall}
 
 -- ---- what a call is lent

@@ -17,9 +17,9 @@ use Rattle.wire.specs.Transfer.{dustTransfer, transferNumber}
 use Rattle.redraw.specs.Redraw.{updateWireShapes}
 use Rattle.electrical.specs.Answer.{roundsOf, settled, checkSettle}
 use Rattle.states.specs.Row.{deviceOf, togglesOf, candidateOf, delayOf, bitsSet}
-use Rattle.sim.specs.State.{sixteen, freshDevices, freshState}
-use Rattle.sim.specs.Tick.{tick, ticks}
-use Rattle.sim.specs.Calls.{switched}
+use Rattle.updates.specs.State.{sixteen, freshDevices, freshState}
+use Rattle.updates.specs.Tick.{tick, ticks}
+use Rattle.updates.specs.Calls.{switched}
 use Rattle.report.specs.Text.{ascii, settleText}
 use Rattle.cases.proofs.Computing.{computing}
 use Rattle.cases.proofs.Build as Build

@@ -22,9 +22,9 @@ use Rattle.electrical.specs.Answer.{roundsOf, settled, checkCall, checkSettle}
 use Rattle.states.specs.Row.{delayOf, bitsSet, isCandidate, goodQueue, goodLamp, goodTorch, goodState}
 use Rattle.states.specs.Fresh.{freshDevice, freshQueue, freshLamp, freshRow}
 use Rattle.devices.specs.Step.{repeaterInputLevel, isRequested, locksFrom, isLocked, nextQueue, repeaterRow, torchSupportIsPowered, nextToggles, nextCandidate, torchRow, compared, nextComparator, deviceRow, nextLit, nextLeft, lampRow}
-use Rattle.sim.specs.State.{devicesOf, checkState, freshDevices, freshState}
-use Rattle.sim.specs.Tick.{withDevices, withLamps, settledOf, setDevices, setLamps, tick, ticks}
-use Rattle.sim.specs.Calls.{checkFresh, checkStep, checkTick, switched}
+use Rattle.updates.specs.State.{devicesOf, checkState, freshDevices, freshState}
+use Rattle.updates.specs.Tick.{withDevices, withLamps, settledOf, setDevices, setLamps, tick, ticks}
+use Rattle.updates.specs.Calls.{checkFresh, checkStep, checkTick, switched}
 use Rattle.report.specs.Text.{decimalWithin, decimalOf, signedText, lineOf, rowText, settledText, refusalText, checkRun, checkWhole, runText, settleText}
 
 unfoldable pub computing : ℕ

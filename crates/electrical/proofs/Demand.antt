@@ -80,8 +80,8 @@ module _ (p t : Bytes) {a b c : Column} (j : Rows Larger a b c) where
   rounds-join = Network.rounds-larger (networkOf p t) (emitted-larger t j)
 
 -- of two valid columns of a table the joined one is valid, and settles so
-pub joined : (p t : Bytes) (a b : Column) → IsValid t a → IsValid t b → Joined p t a b (largerOf a b)
-joined p t a b ha hb =
+pub join-settles : (p t : Bytes) (a b : Column) → IsValid t a → IsValid t b → Joined p t a b (largerOf a b)
+join-settles p t a b ha hb =
     let va = valid-devices t a ha in
     let vb = valid-devices t b hb in
     record {

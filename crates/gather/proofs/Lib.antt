@@ -1,4 +1,3 @@
-pub mod Levels
 pub mod Arriving
 pub mod Seeking
 pub mod Near

@@ -27,7 +27,7 @@ use Rattle.wire.specs.Transfer.{transmits}
 use Rattle.wire.proofs.Around.{transmits-dust}
 use Rattle.electrical.specs.Edges.{under}
 use Rattle.gather.specs.Slots.{aroundAt, overAt, noRow, slotOf, feederAt, underAt, feeders, unders}
-use Rattle.gather.proofs.Levels.{top-same, top-less}
+use Rattle.network.specs.Laws.Top.{top-same, top-less}
 use Rattle.gather.proofs.Seeking.{sought-is}
 use Rattle.gather.proofs.Near.{Among, transmits-near, under-near}
 

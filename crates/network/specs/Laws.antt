@@ -1,4 +1,5 @@
 -- The laws that `Settled` and `Demand` and the crates above cite.
+pub mod Top
 pub mod Kept
 pub mod States
 pub mod Settle

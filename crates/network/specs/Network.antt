@@ -61,12 +61,12 @@ module _ (N : Network) where
   heldOf = tabulate size (λ i. cond (mapped i) 1 0)
 
   -- the rows of the empty map, and the power there
-  unfoldable pub nowhere : Column
-  nowhere = tabulate size (λ i. 0)
+  unfoldable pub emptyMap : Column
+  emptyMap = tabulate size (λ i. 0)
 
   -- "dust starts at 0, power as an empty map"
   unfoldable pub start : Column → State
-  start e = record { signal = signals e (λ i. 0); held = nowhere; weak = nowhere; strong = nowhere }
+  start e = record { signal = signals e (λ i. 0); held = emptyMap; weak = emptyMap; strong = emptyMap }
 
   -- "Each round takes power from the last signals, then dust from the last signals and that new power"
   unfoldable pub round : Column → State → State

@@ -3,7 +3,7 @@
 ghost use lib.IntN.{ℤ};
 ghost use Rattle.places.specs.Places.{cell};
 ghost use Rattle.electrical.specs.Answer.{Settles};
-ghost use Rattle.sim.specs.Calls.{Fresh, Ticks, Switches};
+ghost use Rattle.updates.specs.Calls.{Fresh, Ticks, Switches};
 
 // The fresh state of a table, and what it settles to.
 #[no_mangle]

@@ -16,7 +16,7 @@ use Rattle.refusals.specs.declared.Checked.{Checked}
 use Rattle.refusals.specs.declared.Checked.the-variants.{Accepted, Refused}
 use Rattle.refusals.specs.Check.{refuseUnless}
 use Rattle.electrical.specs.Answer.{roundsOf, settled, checkSettle}
-use Rattle.sim.specs.State.{freshDevices}
+use Rattle.updates.specs.State.{freshDevices}
 
 -- the bytes of a text in ASCII
 abbrev pub ascii : String → Bytes

@@ -11,7 +11,7 @@ use borrow.Author.Tests.{eqb-true}
 use Rattle.columns.specs.Column.{Bytes, Column}
 use Rattle.columns.proofs.Columns.{is-tabulate}
 use Rattle.columns.proofs.Truth.{and-true}
-use Rattle.network.specs.Network.{nowhere}
+use Rattle.network.specs.Network.{emptyMap}
 use Rattle.world.specs.Rows.{rows}
 use Rattle.refusals.specs.Accepted.{Table}
 use Rattle.electrical.specs.Edges.{networkOf}
@@ -35,8 +35,8 @@ module _ {t : Bytes} (accepted : Table t) (n : ℕ) (is : n ≡ rows t) where
   fits = omega (arith, accepted .few)
 
   -- no power anywhere
-  pub zeros-nowhere : (p : Bytes) → take {A = ℕ} n (replicate 1024 0) ≡ nowhere (networkOf p t)
-  unfolding nowhere networkOf
-  zeros-nowhere p =
+  pub zeros-emptyMap : (p : Bytes) → take {A = ℕ} n (replicate 1024 0) ≡ emptyMap (networkOf p t)
+  unfolding emptyMap networkOf
+  zeros-emptyMap p =
       is-tabulate (take n (replicate 1024 0)) (rows t) (λ i. 0) (length-zeros n 1024 fits ∙ is)
       (λ i l. getD-take n (replicate 1024 0) i 0 (omega arith) ∙ getD-replicate 1024 i 0 0 (omega (arith, accepted .few)))

@@ -10,7 +10,7 @@ use borrow.Author.Tests.{leb-true, le-leb, lt-leb}
 use Rattle.columns.specs.Column.{Bytes, Column, row, tabulate}
 use Rattle.columns.proofs.Columns.{length-tabulate, row-tabulate, same-rule}
 use Rattle.network.specs.Levels.{arriving}
-use Rattle.network.specs.Network.{Network, strongOf, weakOf, level, signals, nowhere}
+use Rattle.network.specs.Network.{Network, strongOf, weakOf, level, signals, emptyMap}
 use Rattle.network.specs.Settled.{roundsOf, settled}
 use Rattle.network.specs.Laws.Loop.{Going, Gone, repeats, going-start, going-stop, going-on, going-out}
 use Rattle.blocks.specs.Kind.{isDust}
@@ -21,7 +21,7 @@ use Rattle.electrical.specs.Edges.{through, lights, drives, networkOf}
 use Rattle.electrical.specs.Answer.{Columns}
 use Rattle.electrical.proofs.Demand.{on-map}
 use Rattle.gather.proofs.Slotted.{arriving-feeders, arriving-unders}
-use Rattle.rounds.specs.Rounds.{slotted, nextSignal, nextWeak, firstSignal}
+use Rattle.round.specs.Round.{slotted, nextSignal, nextWeak, firstSignal}
 use Rattle.rounds.specs.Prepared.{Prepared}
 use Rattle.rounds.specs.Outcome.{outcomeOf, writtenBy, Ran, Solves}
 use Rattle.rounds.specs.declared.Outcome.{Outcome}
@@ -70,7 +70,7 @@ module _ {p t : Bytes} {e base direct feeders unders : Column} {empty : Bool} (c
 
   -- ---- the loop
 
-  pub starts : {s w : Column} → s ≡ tabulate (rows t) (firstSignal t e) → w ≡ nowhere (networkOf p t) → Going (networkOf p t) e empty g 0 s w
+  pub starts : {s w : Column} → s ≡ tabulate (rows t) (firstSignal t e) → w ≡ emptyMap (networkOf p t) → Going (networkOf p t) e empty g 0 s w
   starts p q = going-start (c .empty-is) refl (p ∙ signals-first _ _ _) q
 
   -- round k + 1

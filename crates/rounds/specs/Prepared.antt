@@ -6,7 +6,7 @@ use Prim.Native.Nat.{_*_, max}
 use lib.ListN.{length}
 use Rattle.columns.specs.Column.{Bytes, Column, row, tabulate}
 use Rattle.network.specs.Levels.{arriving}
-use Rattle.network.specs.Network.{strongOf, nowhere}
+use Rattle.network.specs.Network.{strongOf, emptyMap}
 use Rattle.network.specs.Laws.Loop.{unmapped}
 use Rattle.world.specs.Rows.{rows}
 use Rattle.refusals.specs.Accepted.{Table}
@@ -30,7 +30,7 @@ pub record Prepared (p t : Bytes) (emitted base direct feeders unders : Column) 
 -- Room for the columns of two rounds: no weak power yet in w0.
 pub record Buffers (p t : Bytes) (s0 w0 s1 w1 : Column) : Type 0 where
   pub s0-rows : length s0 ≡ rows t
-  pub w0-is : w0 ≡ nowhere (networkOf p t)
+  pub w0-is : w0 ≡ emptyMap (networkOf p t)
   pub s1-rows : length s1 ≡ rows t
   pub w1-rows : length w1 ≡ rows t
 

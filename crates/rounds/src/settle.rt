@@ -1,18 +1,18 @@
 // The loop of rounds over the prepared columns.
 use crate::Outcome;
-use crate::round::answers;
-use crate::round::copy;
-use crate::round::first_signals;
-use crate::round::next_signals;
-use crate::round::next_weaks;
+use round::answers;
+use round::copy;
+use round::first_signals;
+use round::next_signals;
+use round::next_weaks;
 ghost use mathlib.Core.Path.{_≡_};
 ghost use lib.ListN.{length};
 ghost use Rattle.columns.specs.Column.{tabulate};
-ghost use Rattle.network.specs.Network.{strongOf, nowhere};
+ghost use Rattle.network.specs.Network.{strongOf, emptyMap};
 ghost use Rattle.network.specs.Settled.{roundsOf, settled};
 ghost use Rattle.world.specs.Rows.{rows};
 ghost use Rattle.electrical.specs.Edges.{networkOf};
-ghost use Rattle.rounds.specs.Rounds.{firstSignal};
+ghost use Rattle.round.specs.Round.{firstSignal};
 ghost use Rattle.rounds.specs.Prepared.{Prepared, Buffers, Outputs};
 ghost use Rattle.rounds.specs.Outcome.{writtenBy, Ran, Solves};
 
@@ -34,7 +34,7 @@ fn run(
     w1: &mut [u8],
 ) -> Outcome
     requires { ⌜ Prepared (now profile) (now table) (now emitted) (now base) (now direct) (now feeders) (now unders) empty ⌝ }
-    requires { ⌜ (now s0 ≡ tabulate (rows (now table)) (firstSignal (now table) (now emitted))) × (now w0 ≡ nowhere (networkOf (now profile) (now table))) ⌝ }
+    requires { ⌜ (now s0 ≡ tabulate (rows (now table)) (firstSignal (now table) (now emitted))) × (now w0 ≡ emptyMap (networkOf (now profile) (now table))) ⌝ }
     requires { ⌜ (length (now s1) ≡ rows (now table)) × (length (now w1) ≡ rows (now table)) ⌝ }
     ensures { λ r. ⌜ Ran (networkOf (now (profile .entry)) (now (table .entry))) (now (emitted .entry)) limit (now (s1 .exit)) (now (w1 .exit)) r ⌝ }
 {

@@ -10,10 +10,10 @@ use Rattle.refusals.specs.declared.Checked.{Checked}
 use Rattle.refusals.specs.declared.Checked.the-variants.{Accepted, Refused}
 use Rattle.refusals.specs.Check.{answerOf}
 use Rattle.electrical.specs.Answer.{roundsOf, settled, Columns}
-use Rattle.sim.specs.State.{devicesOf, freshDevices, freshState}
-use Rattle.sim.specs.Tick.{ticks}
+use Rattle.updates.specs.State.{devicesOf, freshDevices, freshState}
+use Rattle.updates.specs.Tick.{ticks}
 use Rattle.sim.specs.Running.{Stands, Settled}
-use Rattle.sim.specs.Calls.{checkFresh, checkStep, checkTick, switched, Fresh, Ticks, Switches}
+use Rattle.updates.specs.Calls.{checkFresh, checkStep, checkTick, switched, Fresh, Ticks, Switches}
 
 -- ---- the columns that a call leaves on which c falls
 

@@ -5,7 +5,7 @@ use Prim.Native.Nat.{ℕ, zero, suc, _+_}
 use native.Mathlib.Nat.{zero-add}
 use native.Mathlib.Omega.{arith}
 use Rattle.columns.specs.Column.{Bytes}
-use Rattle.sim.specs.Tick.{tick, ticks}
+use Rattle.updates.specs.Tick.{tick, ticks}
 
 module _ (p t : Bytes) where
   pub ticks-none : (st : Bytes) → ticks 0 p t st ≡ st

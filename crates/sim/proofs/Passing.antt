@@ -18,9 +18,9 @@ use Rattle.electrical.specs.Answer.{roundsOf, goodColumns}
 use Rattle.rounds.specs.Prepared.{Outputs}
 use Rattle.rounds.proofs.Lending.{outputs, length-zeros, fits}
 use Rattle.wire.proofs.Alike.{same-rows}
-use Rattle.sim.specs.State.{devicesOf, IsValidState, checkState}
+use Rattle.updates.specs.State.{devicesOf, IsValidState, checkState}
 use Rattle.sim.specs.Running.{Room, Ready, Stands}
-use Rattle.sim.specs.Calls.{checkFresh, checkStep, checkTick, switched}
+use Rattle.updates.specs.Calls.{checkFresh, checkStep, checkTick, switched}
 use Rattle.sim.proofs.Valid.{valid-state, devices-of-valid}
 use Rattle.sim.proofs.Switching.{switched-alike, switched-accepted, switched-devices, switched-valid}
 

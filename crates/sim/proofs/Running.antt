@@ -14,8 +14,8 @@ use Rattle.rounds.specs.declared.Outcome.{Outcome}
 use Rattle.rounds.specs.declared.Outcome.the-variants as Outcome
 use Rattle.rounds.specs.Outcome.{outcomeOf, Solves}
 use Rattle.states.specs.Fresh.{numbersOf, powersOf}
-use Rattle.sim.specs.State.{devicesOf, IsValidState}
-use Rattle.sim.specs.Tick.{withDevices, withLamps, settledOf, setDevices, setLamps, tick, ticks}
+use Rattle.updates.specs.State.{devicesOf, IsValidState}
+use Rattle.updates.specs.Tick.{withDevices, withLamps, settledOf, setDevices, setLamps, tick, ticks}
 use Rattle.sim.specs.Running.{Room, Ready, Stands, Settled}
 use Rattle.sim.proofs.Many.{ticks-none, ticks-next}
 use Rattle.sim.proofs.States.{devices-read, lamps-read, length-ticks, tick-devices}

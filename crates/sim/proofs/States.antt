@@ -14,10 +14,10 @@ use Rattle.electrical.specs.Answer.{settled}
 use Rattle.states.specs.Row.{deviceOf, candidateOf}
 use Rattle.states.specs.Fresh.{numbersOf, powersOf, freshRow}
 use Rattle.devices.specs.Step.{deviceRow, lampRow}
-use Rattle.devices.proofs.Rows.{length-device, length-lamp, device-reads, lamp-reads, lamp-device, lamp-candidate, device-candidate}
+use Rattle.steps.proofs.Rows.{length-device, length-lamp, device-reads, lamp-reads, lamp-device, lamp-candidate, device-candidate}
 use Rattle.states.proofs.FreshRows.{fresh-reads}
-use Rattle.sim.specs.State.{sixteen, devicesOf, freshDevices, freshState}
-use Rattle.sim.specs.Tick.{withDevices, withLamps, settledOf, setDevices, setLamps, tick, ticks}
+use Rattle.updates.specs.State.{sixteen, devicesOf, freshDevices, freshState}
+use Rattle.updates.specs.Tick.{withDevices, withLamps, settledOf, setDevices, setLamps, tick, ticks}
 
 -- ---- the rows of a tick
 

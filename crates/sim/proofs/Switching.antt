@@ -30,8 +30,8 @@ use Rattle.electrical.specs.Emitted.{IsValid}
 use Rattle.electrical.proofs.Devices.{valid-devices, devices-valid}
 use Rattle.wire.proofs.Alike.{Alike, same-rows, same-kind, same-place}
 use Rattle.states.specs.Row.{deviceOf}
-use Rattle.sim.specs.State.{sixteen, devicesOf}
-use Rattle.sim.specs.Calls.{switched}
+use Rattle.updates.specs.State.{sixteen, devicesOf}
+use Rattle.updates.specs.Calls.{switched}
 
 -- ---- a good row whose byte 14 is another is good
 

@@ -21,9 +21,9 @@ use Rattle.states.specs.Row.{deviceOf, goodState}
 use Rattle.states.specs.Fresh.{freshDevice, freshRow}
 use Rattle.states.proofs.Parts.{parts, whole}
 use Rattle.states.proofs.FreshRows.{length-fresh, fresh-device, fresh-good}
-use Rattle.devices.proofs.Valid.{device-good, lamp-good}
-use Rattle.sim.specs.State.{sixteen, devicesOf, isBadState, checkState, IsValidState, freshDevices, freshState}
-use Rattle.sim.specs.Tick.{settledOf, setDevices, tick, ticks}
+use Rattle.steps.proofs.Valid.{device-good, lamp-good}
+use Rattle.updates.specs.State.{sixteen, devicesOf, isBadState, checkState, IsValidState, freshDevices, freshState}
+use Rattle.updates.specs.Tick.{settledOf, setDevices, tick, ticks}
 use Rattle.sim.proofs.States.{row-length, length-set-devices, length-tick, device-row, tick-row}
 
 pub record Stated (t st : Bytes) : Type 0 where

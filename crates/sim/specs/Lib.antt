@@ -1,4 +1,1 @@
-pub mod State
-pub mod Tick
 pub mod Running
-pub mod Calls

@@ -8,7 +8,7 @@ use Rattle.world.specs.Rows.{rows}
 use Rattle.refusals.specs.Check.{IsAccepted}
 use Rattle.electrical.specs.Emitted.{IsValid}
 use Rattle.electrical.specs.Answer.{settled}
-use Rattle.sim.specs.State.{devicesOf}
+use Rattle.updates.specs.State.{devicesOf}
 
 -- One entry a row of the table t in the device column and in the three output columns.
 pub record Room (t : Bytes) (d signal weak strong : Column) : Type 0 where

@@ -1,14 +1,13 @@
 // The tick simulator: `RedstoneTickSimulator`, over a state of sixteen bytes a row. The calls check all that they are given before they
 // write anything.
-pub mod check;
 mod run;
-mod state;
 
 use places::Pos;
 use refusals::Checked;
+use updates::check;
 use world::row::rows;
 ghost use Rattle.places.specs.Places.{cell};
-ghost use Rattle.sim.specs.Calls.{Fresh, Ticks, Switches};
+ghost use Rattle.updates.specs.Calls.{Fresh, Ticks, Switches};
 
 // `new`: fills the state of a table that was just built, and the columns that it settles to.
 pub fn fresh(
@@ -111,7 +110,7 @@ pub fn switch(
     if let Checked::Refused { number: _, row: _ } = checked {
         return refusals::answer(checked, 0);
     }
-    run::set_powered(table, Pos::new(x, y, z), powered);
+    updates::switch::set_powered(table, Pos::new(x, y, z), powered);
     let mut devices = [0u8; 1024];
     let n = rows(table);
     run::settle_state(

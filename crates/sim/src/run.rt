@@ -1,26 +1,21 @@
 // What the calls do once their checks have passed.
-use crate::state::fill_devices;
-use crate::state::fill_fresh;
-use crate::state::fill_fresh_devices;
-use crate::state::set_devices;
-use crate::state::set_lamps;
-use columns::Found;
-use places::Pos;
 use rounds::Outcome;
+use updates::state::fill_devices;
+use updates::state::fill_fresh;
+use updates::state::fill_fresh_devices;
+use updates::state::set_devices;
+use updates::state::set_lamps;
 use world::signal::Rounds;
 ghost use mathlib.Core.Path.{_≡_};
-ghost use mathlib.Core.Bool.{cond};
 ghost use Prim.Native.Nat.{_*_};
 ghost use lib.ListN.{length};
-ghost use lib.Dec.{eqb};
 ghost use Rattle.world.specs.Rows.{rows};
 ghost use Rattle.refusals.specs.Check.{IsAccepted};
 ghost use Rattle.electrical.specs.Emitted.{IsValid};
 ghost use Rattle.electrical.specs.Answer.{roundsOf};
-ghost use Rattle.sim.specs.State.{devicesOf, IsValidState, freshDevices, freshState};
-ghost use Rattle.sim.specs.Tick.{tick, ticks};
+ghost use Rattle.updates.specs.State.{devicesOf, IsValidState, freshDevices, freshState};
+ghost use Rattle.updates.specs.Tick.{tick, ticks};
 ghost use Rattle.sim.specs.Running.{Room, Ready, Stands, Settled};
-ghost use Rattle.sim.specs.Calls.{switched};
 
 // Settles the devices. No table needs more rounds than the limit given here.
 fn settle(
@@ -126,21 +121,4 @@ pub fn new_state(
     let rounds = settle(profile, table, devices, signal, weak, strong);
     fill_fresh(table, weak, strong, state);
     rounds
-}
-
-// What byte 14 says of a number.
-fn powered_byte(powered: u32) -> u8
-    ensures { λ r. ⌜ r ≡ cond (eqb powered 0) 1 2 ⌝ }
-{
-    if powered == 0 { 1 } else { 2 }
-}
-
-// Byte 14 of the row at the position; nothing where it is empty.
-pub fn set_powered(table: &mut [u8], q: Pos, powered: u32)
-    ensures { λ _. ⌜ now (table .exit) ≡ switched (now (table .entry)) q powered ⌝ }
-{
-    let Found::At(i) = world::find::find(table, q) else {
-        return;
-    };
-    table[i * 32 + 14] = powered_byte(powered);
 }

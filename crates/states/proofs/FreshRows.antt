@@ -2,7 +2,7 @@
 -- Assumes nothing.
 use mathlib.Core.Path.{_≡_, refl}
 use mathlib.Core.Logic.{by-cases}
-use mathlib.Core.Bool.{Bool, true, false, cond, _&&_}
+use mathlib.Core.Bool.{Bool, true, false, cond, _&&_, _||_}
 use Prim.Native.Nat.{ℕ, suc, _*_, _-_, _%_, _^_}
 use native.Mathlib.Nat.{pow-suc}
 use native.Mathlib.Decide.{ℕ-discrete}
@@ -51,7 +51,7 @@ filled-queue false m =
     rw (lt-ltb (0 * (2 ^ suc m - 1)) (2 ^ suc m) (omega (arith, pow-suc 2 m, pow-pos m))) (eq-eqb (0 * (2 ^ suc m - 1) % 2) 0 (omega arith))
 
 lamp-of : (x power : Bool)
-    → cond x (leb (cond (x && power) 1 0) 1 && leb 0 (2 * cond (x && power) 1 0)) (eqb (cond (x && power) 1 0) 0 && eqb 0 0) ≡ true
+    → cond x (leb (cond (x && power) 1 0) 1 && (leb 0 2 && (eqb (cond (x && power) 1 0) 1 || eqb 0 0))) (eqb (cond (x && power) 1 0) 0 && eqb 0 0) ≡ true
 lamp-of true true = refl
 lamp-of true false = refl
 lamp-of false true = refl

@@ -72,7 +72,7 @@ module _ (t : Bytes) (i : ℕ) (r : Bytes) where
   unfoldable pub goodLamp : Bool
   goodLamp =
       cond (eqb (kindOf t i) RedstoneLamp)
-      (leb (litOf r) 1 && leb (leftOf r) (2 * litOf r))
+      (leb (litOf r) 1 && (leb (leftOf r) 2 && (eqb (litOf r) 1 || eqb (leftOf r) 0)))
       (eqb (litOf r) 0 && eqb (leftOf r) 0)
 
   -- "j from 0 to 30"; "candidate 0/1, 1 where eight or more toggle bits are set"

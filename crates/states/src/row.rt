@@ -57,7 +57,7 @@ fn good_lamp(table: &[u8], row: usize, sixteen: &[u8]) -> bool
     let lit = byte_at(sixteen, 2);
     let left = byte_at(sixteen, 3);
     if kind_of(table, row) == kind::REDSTONE_LAMP {
-        return (lit <= 1) & (wide(left) <= 2 * wide(lit));
+        return (lit <= 1) & ((left <= 2) & ((lit == 1) | (left == 0)));
     }
     (lit == 0) & (left == 0)
 }

@@ -29,20 +29,20 @@ tintedGlass =
     109 ∷ 105 ∷ 110 ∷ 101 ∷ 99 ∷ 114 ∷ 97 ∷ 102 ∷ 116 ∷ 58 ∷ 116 ∷ 105 ∷ 110 ∷ 116 ∷ 101 ∷ 100 ∷ 95 ∷ 103 ∷ 108 ∷ 97 ∷ 115 ∷ 115 ∷ []
 
 -- top
-abbrev pub top : Bytes
-top = 116 ∷ 111 ∷ 112 ∷ []
+abbrev pub topWord : Bytes
+topWord = 116 ∷ 111 ∷ 112 ∷ []
 
 -- double
-abbrev pub double : Bytes
-double = 100 ∷ 111 ∷ 117 ∷ 98 ∷ 108 ∷ 101 ∷ []
+abbrev pub doubleWord : Bytes
+doubleWord = 100 ∷ 111 ∷ 117 ∷ 98 ∷ 108 ∷ 101 ∷ []
 
 -- "`type` top, double, else bottom"
 abbrev pub slabShape : Bytes → ℕ
-slabShape type = cond (same type top) TopSlab (cond (same type double) DoubleSlab BottomSlab)
+slabShape type = cond (same type topWord) TopSlab (cond (same type doubleWord) DoubleSlab BottomSlab)
 
 -- "`half` top, else bottom"
 abbrev pub stairsShape : Bytes → ℕ
-stairsShape half = cond (same half top) TopStairs BottomStairs
+stairsShape half = cond (same half topWord) TopStairs BottomStairs
 
 -- "`minecraft:glass` or `minecraft:tinted_glass`"
 abbrev pub isGlass : Bytes → Bool

@@ -99,6 +99,34 @@ fn every_edit_changes_one_place() {
     }
 }
 
+/// The files and folders of the repository that a document names. A path with a word in capitals stands for many.
+fn paths_in(document: &str) -> Vec<&str> {
+    let ends = |letter: char| letter.is_whitespace() || "`()[]|,;:\"'".contains(letter);
+    let words = document.split(ends).map(|word| word.trim_start_matches("../").trim_end_matches('.'));
+    let is_path = |word: &&str| {
+        let in_repository =
+            ["crates/", "rust/", "docs/", "bin/"].iter().any(|folder| word.starts_with(folder));
+        let stands_for_many = word.contains("..") || word.contains("CRATE") || word.contains("NAME");
+        in_repository && !stands_for_many
+    };
+    words.filter(is_path).collect()
+}
+
+#[test]
+fn every_path_that_a_document_names_is_there() {
+    let documents = names_in("docs").into_iter().filter(|name| name.ends_with(".md"));
+    let documents = documents.map(|name| format!("docs/{name}")).chain(["README.md".to_string()]);
+    let mut named = 0;
+    for document in documents {
+        let content = text(&document);
+        for word in paths_in(&content) {
+            assert!(path(word).exists(), "{document} names {word}, which is not there");
+            named += 1;
+        }
+    }
+    assert!(named > 50, "only {named} paths were found");
+}
+
 #[test]
 fn every_crate_is_in_the_architecture() {
     let rows = table_rows(&text("docs/ARCHITECTURE.md"));

@@ -11,7 +11,7 @@ use Rattle.columns.specs.Column.{Column, row, tabulate}
 use Rattle.columns.specs.Signal.{maxSignal}
 use Rattle.columns.proofs.Columns.{length-tabulate, row-tabulate}
 use Rattle.network.specs.Levels.{top, arriving}
-use Rattle.network.specs.Network.{Network, strongOf, weakOf, level, signals, heldOf, nowhere, start, round, after}
+use Rattle.network.specs.Network.{Network, strongOf, weakOf, level, signals, heldOf, emptyMap, start, round, after}
 use Rattle.network.specs.Compare.{Rel, Rows, States}
 
 -- The relation R is kept: by no level and by the mark of the map, by `max`, by the cap, and by the loss of one, which takes Q to R.
@@ -80,9 +80,9 @@ module _ (N : Network) {R : Rel} (d : Kept R R) {a b c : Column} (e : Rows R a b
       tabulate-kept d size
       (λ i. d .most (arriving-kept d size through (strongOf-kept N d e .at) i) (arriving-kept d size under (q .at) i))
 
-  nowhere-kept : Rows R (nowhere N) (nowhere N) (nowhere N)
-  unfolding nowhere
-  nowhere-kept = tabulate-kept d size (λ i. d .none)
+  emptyMap-kept : Rows R (emptyMap N) (emptyMap N) (emptyMap N)
+  unfolding emptyMap
+  emptyMap-kept = tabulate-kept d size (λ i. d .none)
 
   heldOf-kept : Rows R (heldOf N) (heldOf N) (heldOf N)
   unfolding heldOf
@@ -92,7 +92,7 @@ module _ (N : Network) {R : Rel} (d : Kept R R) {a b c : Column} (e : Rows R a b
   pub after-kept : (k : ℕ) → States R (after N a k) (after N b k) (after N c k)
   unfolding after start round
   after-kept zero =
-      record { signal = signals-kept N d e (λ i. d .none); held = nowhere-kept; weak = nowhere-kept; strong = nowhere-kept }
+      record { signal = signals-kept N d e (λ i. d .none); held = emptyMap-kept; weak = emptyMap-kept; strong = emptyMap-kept }
   after-kept (suc k) =
       record {
         signal = signals-kept N d e (level-kept N d e (after-kept k .signal));

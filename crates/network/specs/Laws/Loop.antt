@@ -11,7 +11,7 @@ use borrow.Author.Tests.{lt-ltb}
 use Rattle.columns.specs.Column.{Column, row, same}
 use Rattle.columns.proofs.Columns.{length-tabulate, row-tabulate, same-rule, is-tabulate, same-true, same-refl}
 use Rattle.columns.proofs.Truth.{and-true}
-use Rattle.network.specs.Network.{Network, strongOf, weakOf, level, signals, heldOf, nowhere, start, round, after, Answers}
+use Rattle.network.specs.Network.{Network, strongOf, weakOf, level, signals, heldOf, emptyMap, start, round, after, Answers}
 use Rattle.network.specs.Settled.{roundsOf, settled}
 use Rattle.network.specs.Compare.{OnMap}
 use Rattle.network.specs.Demand.{rounds-first, rounds-are}
@@ -23,15 +23,15 @@ use Rattle.network.specs.Laws.Map.{strongOf-off}
 
 -- no row stands on the map: it is empty
 unfoldable pub unmapped : Network → Bool
-unmapped N = same (heldOf N) (nowhere N)
+unmapped N = same (heldOf N) (emptyMap N)
 
 module _ (N : Network) where
   pub unmapped-true : ((i : ℕ) → i < N .size → N .mapped i ≡ false) → unmapped N ≡ true
-  unfolding unmapped heldOf nowhere
-  unmapped-true h = rw (same-rule (N .size) (λ i. cond (N .mapped i) 1 0) (λ i. 0) (λ i l. rw (h i l))) (same-refl (nowhere N))
+  unfolding unmapped heldOf emptyMap
+  unmapped-true h = rw (same-rule (N .size) (λ i. cond (N .mapped i) 1 0) (λ i. 0) (λ i l. rw (h i l))) (same-refl (emptyMap N))
 
-  none-mapped : heldOf N ≡ nowhere N → (i : ℕ) → i < N .size → N .mapped i ≡ false
-  unfolding heldOf nowhere
+  none-mapped : heldOf N ≡ emptyMap N → (i : ℕ) → i < N .size → N .mapped i ≡ false
+  unfolding heldOf emptyMap
   none-mapped p i l = go (N .mapped i) refl
     where
       is : _≡_ {A = ℕ} (cond (N .mapped i) 1 0) 0
@@ -50,8 +50,8 @@ module _ (N : Network) where
       go false p = p
 
 module _ (N : Network) (o : OnMap N) (e : Column) where
-  strong-unmapped : unmapped N ≡ true → strongOf N e ≡ nowhere N
-  unfolding unmapped nowhere strongOf
+  strong-unmapped : unmapped N ≡ true → strongOf N e ≡ emptyMap N
+  unfolding unmapped emptyMap strongOf
   strong-unmapped b =
       is-tabulate (strongOf N e) (N .size) (λ i. 0) (length-tabulate (N .size) 0 _)
       (λ i l. strongOf-off N o i (none-mapped N (same-true _ _ b) i l) e)
@@ -66,7 +66,7 @@ module _ (N : Network) (o : OnMap N) (e : Column) where
   -- and only there
   answers-map : (k : ℕ) → Answers N e (suc k) → (ltb 0 k || unmapped N) ≡ true
   unfolding after start round unmapped
-  answers-map zero a = let p : heldOf N ≡ nowhere N = ap (λ t. t .held) a in rw p (same-refl (nowhere N))
+  answers-map zero a = let p : heldOf N ≡ emptyMap N = ap (λ t. t .held) a in rw p (same-refl (emptyMap N))
   answers-map (suc k) a = rw (lt-ltb 0 (suc k) (omega arith))
 
 -- ---- the loop
@@ -91,7 +91,7 @@ abbrev pub repeats : Bool → ℕ → Column → Column → Column → Column �
 repeats empty k s w s′ w′ = same s s′ && same w w′ && (ltb 0 k || empty)
 
 pub going-start : {N : Network} {e : Column} {empty : Bool} {g s w : Column} → empty ≡ unmapped N → g ≡ strongOf N e
-    → s ≡ signals N e (λ i. 0) → w ≡ nowhere N → Going N e empty g 0 s w
+    → s ≡ signals N e (λ i. 0) → w ≡ emptyMap N → Going N e empty g 0 s w
 unfolding after start
 going-start {N} {e} m h p q = record { map = m; strong = h; signal = p; weak = q; none = none-yet N e }
 

@@ -7,7 +7,7 @@ use lib.ListN.{length}
 use Rattle.columns.specs.Column.{Column, same}
 use Rattle.columns.proofs.Columns.{length-tabulate, same-true, same-refl}
 use Rattle.columns.proofs.Truth.{and-true}
-use Rattle.network.specs.Network.{Network, State, strongOf, weakOf, signals, heldOf, nowhere, start, round, after}
+use Rattle.network.specs.Network.{Network, State, strongOf, weakOf, signals, heldOf, emptyMap, start, round, after}
 
 -- two states are one where their columns are
 pub one-state : {t u : State} → t .signal ≡ u .signal → t .held ≡ u .held → t .weak ≡ u .weak → t .strong ≡ u .strong → t ≡ u
@@ -37,6 +37,6 @@ pub record Sized (n : ℕ) (t : State) : Type 0 where
   pub strong : length (t .strong) ≡ n
 
 pub after-sized : (N : Network) (e : Column) (k : ℕ) → Sized (N .size) (after N e k)
-unfolding after start round signals nowhere heldOf weakOf strongOf
+unfolding after start round signals emptyMap heldOf weakOf strongOf
 after-sized N e zero = record { signal = length-tabulate _ 0 _; held = length-tabulate _ 0 _; weak = length-tabulate _ 0 _; strong = length-tabulate _ 0 _ }
 after-sized N e (suc k) = record { signal = length-tabulate _ 0 _; held = length-tabulate _ 0 _; weak = length-tabulate _ 0 _; strong = length-tabulate _ 0 _ }

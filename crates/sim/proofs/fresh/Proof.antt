@@ -4,7 +4,7 @@ use Prim.Native.Nat.{_*_}
 use lib.ListN.{length}
 use Rattle.world.specs.Rows.{rows}
 use Rattle.refusals.specs.declared.Checked.the-variants.{Accepted}
-use Rattle.sim.specs.Calls.{checkFresh}
+use Rattle.updates.specs.Calls.{checkFresh}
 use Rattle.sim.proofs.Passing.{Passed, passed-fresh, few, front, device-room}
 use Rattle.sim.proofs.Answers.{fresh-done, fresh-refused}
 use borrow.Author.Needs.{needs}

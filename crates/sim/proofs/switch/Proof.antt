@@ -4,7 +4,7 @@ use lib.ListN.{length}
 use Rattle.refusals.specs.declared.Checked.the-variants.{Accepted}
 use Rattle.places.specs.Places.{cell}
 use Rattle.places.proofs.Signs.{back32}
-use Rattle.sim.specs.Calls.{checkStep}
+use Rattle.updates.specs.Calls.{checkStep}
 use Rattle.sim.proofs.Passing.{Turned, passed-step, few, front, device-room, switch-ready, switch-outputs, switch-rounds, switch-stands}
 use Rattle.sim.proofs.Answers.{switch-done, switch-refused}
 use borrow.Author.Needs.{needs}

@@ -2,8 +2,8 @@
 use mathlib.Core.Path.{_≡_, sym, _∙_}
 use lib.ListN.{length}
 use Rattle.refusals.specs.declared.Checked.the-variants.{Accepted}
-use Rattle.sim.specs.State.{IsValidState}
-use Rattle.sim.specs.Calls.{checkTick}
+use Rattle.updates.specs.State.{IsValidState}
+use Rattle.updates.specs.Calls.{checkTick}
 use Rattle.sim.proofs.Passing.{Passed, passed-tick, few, front, device-room}
 use Rattle.sim.proofs.Answers.{ticks-done, ticks-refused}
 use borrow.Author.Needs.{needs}

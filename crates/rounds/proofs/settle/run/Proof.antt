@@ -4,7 +4,7 @@ use mathlib.Core.Path.{refl, ap, sym, _∙_}
 use Prim.Native.Nat.{_*_}
 use native.Mathlib.Omega.{arith}
 use lib.ListN.{length}
-use Rattle.network.specs.Network.{nowhere}
+use Rattle.network.specs.Network.{emptyMap}
 use Rattle.electrical.specs.Edges.{networkOf}
 use Rattle.rounds.proofs.Rounds.{Turning, made-rows, base-rows, direct-rows, feeders-rows, unders-rows, starts, stops, goes-on, ran-settled, ran-unsettled}
 use Rattle.rounds.proofs.settle.run.Statement.{statement}
@@ -17,7 +17,7 @@ abbrev μ-loop : tie.MeasureT-loop
 μ-loop profile table emitted base direct feeders unders empty limit s0₀ w0₀ s1₀ w1₀ rounds₀ left₀ s0 w0 s1 w1 rounds left = left
 
 loop-holds : tie.Need-loop-holds Inv-loop μ-loop
-unfolding nowhere networkOf
+unfolding emptyMap networkOf
 loop-holds c = let q = c .before .before .before .before .before .before .before .before .before .before .before .pre in
     record {
       count = omega arith;
@@ -51,7 +51,7 @@ same-length : tie.Need-same-length Inv-loop μ-loop
 same-length c = c .before .before .before .before .before .before .before .before .before .before .before .before .before .before .before .before .before .loop .inv .s0-rows ∙ sym (made-rows _ (c .before .before .before .before .before .before .before .before .before .before .before .before .before .before .before .before .before .before .before .before .before .before .before .before .before .before .before .before .before .pre .1 .0 .0) refl)
 
 same-length-2 : tie.Need-same-length-2 Inv-loop μ-loop
-unfolding nowhere networkOf
+unfolding emptyMap networkOf
 same-length-2 c = c .before .before .before .before .before .before .before .before .before .before .before .before .before .before .before .before .before .loop .inv .w0-rows ∙ sym (made-rows _ (c .before .before .before .before .before .before .before .before .before .before .before .before .before .before .before .before .before .before .before .before .before .before .before .before .before .before .before .before .before .pre .1 .0 .1) refl)
 
 same-length-3 : tie.Need-same-length-3 Inv-loop μ-loop
@@ -96,7 +96,7 @@ same-length-5 : tie.Need-same-length-5 Inv-loop μ-loop
 same-length-5 c = c .before .loop .inv .s0-rows ∙ sym (made-rows _ (c .before .before .before .before .before .before .before .before .before .before .before .before .before .pre .1 .0 .0) refl)
 
 same-length-6 : tie.Need-same-length-6 Inv-loop μ-loop
-unfolding nowhere networkOf
+unfolding emptyMap networkOf
 same-length-6 c = c .before .loop .inv .w0-rows ∙ sym (made-rows _ (c .before .before .before .before .before .before .before .before .before .before .before .before .before .pre .1 .0 .1) refl)
 
 same-length-7 : tie.Need-same-length-7 Inv-loop μ-loop

@@ -2,7 +2,7 @@
 use mathlib.Core.Path.{sym, _∙_}
 use Prim.Native.Nat.{_≤_}
 use lib.ListN.{length}
-use Rattle.rounds.proofs.Lending.{length-zeros, fits, zeros-nowhere}
+use Rattle.rounds.proofs.Lending.{length-zeros, fits, zeros-emptyMap}
 use Rattle.rounds.proofs.settle.settle.Statement.{statement}
 use Rattle.rounds.proofs.settle.settle.Tie as tie
 
@@ -42,7 +42,7 @@ settle-in-requires c κs = let (prepared, (charged, outputs)) = c .before .befor
         (
           record {
             s0-rows = whole;
-            w0-is = zeros-nowhere (prepared .accepted) _ (prepared .emitted-rows) (c .before .before .before .before .before .before .before .before .before .before .before .before .before .before .before .before .before .before .args .profile .now);
+            w0-is = zeros-emptyMap (prepared .accepted) _ (prepared .emitted-rows) (c .before .before .before .before .before .before .before .before .before .before .before .before .before .before .before .before .before .before .args .profile .now);
             s1-rows = whole;
             w1-rows = whole;
           },

@@ -4,7 +4,7 @@ use mathlib.Core.Path.{refl, ap, sym, _∙_}
 use Rattle.columns.specs.Column.{tabulate}
 use Rattle.network.specs.Network.{strongOf}
 use Rattle.electrical.specs.Edges.{networkOf}
-use Rattle.rounds.specs.Rounds.{firstSignal}
+use Rattle.round.specs.Round.{firstSignal}
 use Rattle.rounds.proofs.Rounds.{made-rows, solves}
 use Rattle.rounds.proofs.settle.settle_in.Statement.{statement}
 use Rattle.rounds.proofs.settle.settle_in.Tie as tie

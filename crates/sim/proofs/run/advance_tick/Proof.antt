@@ -1,6 +1,6 @@
 -- `sim::run::advance_tick` meets its contract. Assumes nothing.
 use mathlib.Core.Path.{_≡_, _∙_}
-use Rattle.sim.specs.Tick.{setDevices}
+use Rattle.updates.specs.Tick.{setDevices}
 use Rattle.sim.proofs.Running.{ready-next, next-devices, ticked}
 use Rattle.sim.proofs.Valid.{valid-state}
 use borrow.Author.Needs.{needs}

@@ -14,18 +14,9 @@ byte-at-requires-2 c κs = search needs
 kind-of-requires : tie.Need-kind-of-requires
 kind-of-requires c κs = search needs
 
-wide-requires : tie.Need-wide-requires
-wide-requires c κs = search needs
-
-wide-requires-2 : tie.Need-wide-requires-2
-wide-requires-2 c κs = search needs
-
-mul-result : tie.Need-mul-result
-mul-result c = search needs
-
 returns : tie.Need-returns
 unfolding goodLamp
-returns c = rw (← c .before .before .before .kind-of .ensures, eq-eqb _ 10 (c .before .before .if1 .taken)) (cc)
+returns c = rw (← c .before .kind-of .ensures, eq-eqb _ 10 (c .if1 .taken)) (cc)
 
 returns-2 : tie.Need-returns-2
 unfolding goodLamp
@@ -38,8 +29,5 @@ good-lamp-spec =
     byte-at-requires
     byte-at-requires-2
     kind-of-requires
-    wide-requires
-    wide-requires-2
-    mul-result
     returns
     returns-2)
