@@ -32,7 +32,7 @@ mod compared {
 
     #[test]
     fn the_program_agrees_with_the_original() {
-        let outputs = assert_agrees(with_damaged(good_cases(200)).map(input));
+        let outputs = assert_agrees(with_damaged(good_cases(2_000)).map(input));
         let refused = outputs.iter().filter(|output| output.starts_with("refusal=")).count();
         let counts = format!("{} inputs, {refused} of them refused", outputs.len());
         writeln!(std::io::stdout(), "\nprogram: {counts}").expect("standard output can be written");
