@@ -1,4 +1,5 @@
-//! docs/PROMISES.md with the public functions and the must-fail edits, and docs/ARCHITECTURE.md with the crates.
+//! docs/PROMISES.md with the public functions and the must-fail edits, docs/DECISIONS.md with what functions require, and
+//! docs/ARCHITECTURE.md with the crates.
 
 use std::collections::BTreeSet;
 
@@ -63,6 +64,48 @@ fn every_public_function_has_its_promise() {
         }
     }
     assert!(missing.is_empty(), "not in docs/PROMISES.md: {missing:#?}");
+}
+
+/// The public functions of a source that have a `requires`.
+fn requiring(source: &str) -> Vec<String> {
+    let mut requiring = Vec::new();
+    let mut public = None;
+    for line in source.lines() {
+        let code = line.trim_start();
+        if code.starts_with("fn ") || code == "{" {
+            public = None;
+        }
+        public = declared_function(line).or(public);
+        if code.starts_with("requires ") {
+            requiring.extend(public.take());
+        }
+    }
+    requiring
+}
+
+#[test]
+fn every_requires_of_a_public_function_has_its_reason() {
+    let document = text("docs/DECISIONS.md");
+    let sections =
+        document.split("\n## ").filter(|section| section.starts_with("Public functions that require"));
+    let rows: Vec<_> = sections.flat_map(table_rows).collect();
+    let named = |name: &str, function: &str| {
+        let of_crate = |row: &&Vec<String>| marked(&row[0], '`').contains(&name);
+        rows.iter().filter(of_crate).any(|row| marked(&row[1], '`').contains(&function))
+    };
+    let mut found = 0;
+    for name in crates() {
+        for file in names_in(format!("crates/{name}/src")) {
+            for function in requiring(&text(format!("crates/{name}/src/{file}"))) {
+                assert!(
+                    named(&name, &function),
+                    "docs/DECISIONS.md does not say why {name}'s {function} requires something"
+                );
+                found += 1;
+            }
+        }
+    }
+    assert!(found > 0, "no such function was found");
 }
 
 #[test]
