@@ -52,7 +52,10 @@
 mod answer;
 #[allow(unsafe_code)]
 mod c;
+mod checks;
+mod circuit;
 mod code;
+mod device;
 mod fault;
 mod field;
 mod row;
@@ -60,10 +63,12 @@ mod table;
 #[cfg(test)]
 mod tests;
 
-use answer::answer;
+use answer::answered;
 pub use answer::{Refusal, RefusalKind, Rounds};
+pub use circuit::{Block, Circuit, Figures, Settled};
 pub use code::{Arm, Facing, Kind, Shape, UnknownCode, UnknownName};
-pub use fault::Fault;
+pub use device::Device;
+pub use fault::{Buffer, Fault};
 pub use field::BadField;
 pub use row::{Row, RowError};
 pub use table::{find, rows, table};
@@ -72,6 +77,8 @@ pub use table::{find, rows, table};
 pub const ROW_BYTES: usize = 32;
 /// Bytes of a row of a state.
 pub const STATE_BYTES: usize = 16;
+/// Bytes of a profile.
+pub const PROFILE_BYTES: usize = 13;
 /// The most rows that a table may have.
 pub const MOST_ROWS: usize = 1024;
 /// The largest coordinate; its negative is the smallest.
@@ -79,7 +86,7 @@ pub const FARTHEST: i32 = 1_000_000;
 
 /// The bench's own profile: solid blocks and lamps conduct, and they, transparent blocks and redstone blocks carry
 /// components.
-pub const BENCH_PROFILE: [u8; 13] = [0, 31, 1, 0, 0, 0, 0, 0, 0, 0, 31, 1, 0];
+pub const BENCH_PROFILE: [u8; PROFILE_BYTES] = [0, 31, 1, 0, 0, 0, 0, 0, 0, 0, 31, 1, 0];
 
 /// The columns that a call fills, each of one byte for each row.
 #[derive(Debug)]
@@ -92,7 +99,21 @@ pub struct Columns<'a> {
     pub strong: &'a mut [u8],
 }
 
+impl Columns<'_> {
+    fn lengths(&self) -> [(Buffer, usize); 3] {
+        [
+            (Buffer::Signal, self.signal.len()),
+            (Buffer::Weak, self.weak.len()),
+            (Buffer::Strong, self.strong.len()),
+        ]
+    }
+}
+
 /// Writes the state in which a table starts, and settles it.
+///
+/// A repeater starts as its `powered` says, and off where that is missing; a torch likewise, but lit where it is
+/// missing; a comparator with its power level, or where that is missing with 15 or 0 by `powered`; and a lamp lit where
+/// the settled table powers it.
 ///
 /// # Errors
 ///
@@ -103,7 +124,10 @@ pub fn fresh(
     state: &mut [u8],
     columns: Columns<'_>,
 ) -> Result<Rounds, Refusal> {
-    answer(c::fresh(profile, table, state, columns))
+    let lengths = columns.lengths();
+    let Columns { signal, weak, strong } = columns;
+    let answer = c::redstone_fresh(profile, table, state, signal, weak, strong);
+    answered(answer, || checks::fresh(profile, table, state, &lengths)).map(Rounds)
 }
 
 /// Settles a table with these devices, in at most `limit` rounds.
@@ -119,11 +143,14 @@ pub fn settle(
     limit: u32,
     columns: Columns<'_>,
 ) -> Result<Rounds, Refusal> {
-    answer(c::settle(profile, table, devices, limit, columns))
+    let lengths = columns.lengths();
+    let Columns { signal, weak, strong } = columns;
+    let answer = c::redstone_settle(profile, table, devices, limit, signal, weak, strong);
+    answered(answer, || checks::settle(profile, table, devices, limit, &lengths)).map(Rounds)
 }
 
-/// Moves a state on by `ticks` ticks and settles it. It stands at tick number `tick` before and at `tick + ticks`
-/// after. No ticks at all settle it as it is.
+/// Moves a state on by `ticks` ticks, of a tenth of a second each, and settles it. It stands at tick number `tick`
+/// before and at `tick + ticks` after. No ticks at all settle it as it is. Any number is run, however long it takes.
 ///
 /// # Errors
 ///
@@ -136,7 +163,10 @@ pub fn tick(
     ticks: u32,
     columns: Columns<'_>,
 ) -> Result<Rounds, Refusal> {
-    answer(c::tick(profile, table, state, tick, ticks, columns))
+    let lengths = columns.lengths();
+    let Columns { signal, weak, strong } = columns;
+    let answer = c::redstone_tick(profile, table, state, tick, ticks, signal, weak, strong);
+    answered(answer, || checks::tick(profile, table, state, tick, ticks, &lengths)).map(Rounds)
 }
 
 /// Sets whether the block at x, y, z is powered, in the table itself, and settles it. Where no block is, it settles
@@ -149,9 +179,46 @@ pub fn switch(
     profile: &[u8],
     table: &mut [u8],
     state: &[u8],
-    position: [i32; 3],
+    [x, y, z]: [i32; 3],
     powered: bool,
     columns: Columns<'_>,
 ) -> Result<Rounds, Refusal> {
-    answer(c::switch(profile, table, state, position, powered, columns))
+    let lengths = columns.lengths();
+    let Columns { signal, weak, strong } = columns;
+    let answer = c::redstone_switch(profile, table, state, x, y, z, powered.into(), signal, weak, strong);
+    answered(answer, || checks::switch(profile, table, state, &lengths)).map(Rounds)
+}
+
+/// Draws the arms of every dust anew, in the table itself: all four as they are inferred, and where one alone is left
+/// its opposite, too. An editor does so when a block is set or taken away; a table that stores no arms needs it not.
+///
+/// # Errors
+///
+/// Refusals 1 to 5.
+pub fn redraw(profile: &[u8], table: &mut [u8]) -> Result<(), Refusal> {
+    let answer = c::redstone_redraw(profile, table);
+    answered(answer, || checks::redraw(profile, table)).map(drop)
+}
+
+/// Writes the numbers of the rows that nothing holds up to the front of `rows`, which has an entry for each row of the
+/// table, and answers how many they are. They are dust, torches, repeaters, comparators and levers whose support offset
+/// is missing, leads to an empty place, or leads to a block that carries no components.
+///
+/// ```
+/// use redstone::{BENCH_PROFILE, Kind, Row};
+///
+/// let dust = Row::new(Kind::RedstoneWire, [0, 1, 0]);
+/// let table = redstone::table([Row::new(Kind::Solid, [0, 0, 0]), dust, dust.with_position([1, 1, 0])]);
+/// let mut rows = [0; 3];
+/// let count = redstone::supports(&BENCH_PROFILE, &table, &mut rows)?;
+/// assert_eq!(rows[..count], [1, 2]);
+/// # Ok::<(), redstone::Refusal>(())
+/// ```
+///
+/// # Errors
+///
+/// Refusals 1 to 5, and 7 on `rows`.
+pub fn supports(profile: &[u8], table: &[u8], rows: &mut [u16]) -> Result<usize, Refusal> {
+    let answer = c::redstone_supports(profile, table, rows);
+    answered(answer, || checks::supports(profile, table, rows)).map(|count| count as usize)
 }

@@ -147,6 +147,11 @@ impl Row {
         Self { delay: ticks.into(), ..self }
     }
 
+    /// The ticks that the delay counts as.
+    pub(crate) fn delay_ticks(&self) -> u8 {
+        self.delay.unwrap_or(1).clamp(1, 4)
+    }
+
     /// The step to the block that this one is fixed to, each part from -1 to 1: `[0, -1, 0]` is the block below.
     #[must_use]
     pub fn support(&self) -> Option<[i8; 3]> {
@@ -243,7 +248,7 @@ impl Row {
             shape: SHAPE.coded(bytes)?,
             subtract: SUBTRACT.flag(bytes)?,
         };
-        UNUSED.iter().try_for_each(|field| field.zero(bytes, Allowed::Zero))?;
+        UNUSED.iter().try_for_each(|field| field.zero(bytes, Allowed::Rule("it must be 0")))?;
         Ok(row)
     }
 }
