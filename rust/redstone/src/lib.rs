@@ -1,50 +1,89 @@
 //! Settles redstone and runs it tick by tick, through the proved calls of the static library `redstone`.
 //!
-//! A table of at most 1,024 blocks goes in, and out come three columns with a byte for each row: the signal, and the
-//! weak and the strong power. The editor's order of calls is [`fresh`] once for a table, then [`tick`] and [`switch`]
-//! as the player waits and throws levers; [`settle`] asks what a table settles to with other devices.
-//!
-//! A redstone block, and beside it two dust on solid blocks:
+//! A table of at most 1,024 blocks goes in, and out come three figures for each: its signal, and its weak and its
+//! strong power. [`Circuit`] keeps a table with its state and its figures. A redstone block, and beside it two dust on
+//! solid blocks:
 //!
 //! ```
-//! use redstone::{BENCH_PROFILE, Columns, Kind, ROW_BYTES, Row, STATE_BYTES};
+//! use redstone::{BENCH_PROFILE, Circuit, Kind, Row};
 //!
-//! let table = redstone::table([
+//! let circuit = Circuit::new(&BENCH_PROFILE, [
 //!     Row::new(Kind::RedstoneBlock, [0, 1, 0]),
 //!     Row::new(Kind::Solid, [1, 0, 0]),
 //!     Row::new(Kind::RedstoneWire, [1, 1, 0]),
 //!     Row::new(Kind::Solid, [2, 0, 0]),
 //!     Row::new(Kind::RedstoneWire, [2, 1, 0]),
-//! ]);
+//! ])?;
+//!
+//! assert_eq!(circuit.rounds().get(), 4);
+//! assert_eq!(circuit.at([2, 1, 0]).map(|block| block.figures.signal), Some(14));
+//! assert_eq!(circuit.settled().signal(), [15, 0, 15, 0, 14]);
+//! assert_eq!(circuit.settled().weak(), [0, 15, 0, 14, 0]);
+//! # Ok::<(), redstone::Refusal>(())
+//! ```
+//!
+//! # Rows
+//!
+//! A [`Row`] is a block and its position, in fields; [`table()`] packs rows, [`rows()`] reads them back, and [`find`]
+//! looks a position up. y is up. What a newcomer has to know:
+//!
+//! - A repeater or comparator faces its output; its input is at the opposite side. Without a horizontal facing it has
+//!   neither.
+//! - A lever, button or plate powers the block at its support offset, `[0, -1, 0]` for the one below. Without an offset
+//!   it powers no block, and still gives its level to dust beside it.
+//! - A torch goes out while the block at its support offset has power. One whose `powered` is missing starts lit.
+//! - The support offset is what the [support list](supports) looks at, too: settling itself asks for no floor.
+//!
+//! # Figures
+//!
+//! - The *signal* is the level that a source or device gives, and a dust's own; 0 for all other blocks.
+//! - *Strong power* is what levers, buttons, plates, repeaters, comparators and redstone blocks give to a block.
+//! - *Weak power* is what dust, and strongly powered neighbours, give to a block.
+//!
+//! Lamps, torches, repeaters and comparators answer to both powers; strong power alone drives dust. What a table
+//! settles to is an instant: the devices stand as the state has them, and a tick, a tenth of a second, lets them answer.
+//! So a torch on a powered block is lit in the fresh state and out after one tick.
+//!
+//! # Calls
+//!
+//! [`Circuit`] is made of six calls over plain slices, which an editor with buffers of its own can use as they are:
+//! [`fresh`] once for a table, then [`tick`] and [`switch`] as the player waits and throws levers; [`settle`] asks what
+//! a table settles to with other devices; [`redraw`] draws the arms of dust, and [`supports`] lists what nothing holds
+//! up. The repository's README has their formats byte by byte:
+//!
+//! - The profile has [`PROFILE_BYTES`], one for each kind of block from Air on, such as [`BENCH_PROFILE`].
+//! - The table has [`ROW_BYTES`] for each row, ordered by x, then y, then z, each position once. Rows are numbered in
+//!   that order, from 0.
+//! - A device column has a byte for each row: a repeater's or torch's is 1 where it is on, a comparator's is its
+//!   level, any other is 0.
+//! - A state has [`STATE_BYTES`] for each row, which [`Device::read`] reads. [`fresh`] writes it, and [`tick`] moves it
+//!   on.
+//!
+//! ```
+//! use redstone::{BENCH_PROFILE, Columns, Kind, ROW_BYTES, Row, STATE_BYTES};
+//!
+//! let table = redstone::table([Row::new(Kind::RedstoneBlock, [0, 0, 0]), Row::new(Kind::RedstoneLamp, [1, 0, 0])]);
 //! let rows = table.len() / ROW_BYTES;
 //! let mut state = vec![0; STATE_BYTES * rows];
 //! let [mut signal, mut weak, mut strong] = [vec![0; rows], vec![0; rows], vec![0; rows]];
 //! let columns = Columns { signal: &mut signal, weak: &mut weak, strong: &mut strong };
 //!
-//! let rounds = redstone::fresh(&BENCH_PROFILE, &table, &mut state, columns)?;
+//! redstone::fresh(&BENCH_PROFILE, &table, &mut state, columns)?;
 //!
-//! assert_eq!(rounds.get(), 4);
-//! assert_eq!(signal, [15, 0, 15, 0, 14]);
-//! assert_eq!(weak, [0, 15, 0, 14, 0]);
-//! assert_eq!(strong, [0; 5]);
+//! assert_eq!((signal, strong), (vec![15, 0], vec![0, 15]));
 //! # Ok::<(), redstone::Refusal>(())
 //! ```
-//!
-//! # Formats
-//!
-//! The repository's README has them byte by byte.
-//!
-//! - The profile has 13 bytes, one for each kind of block from Air on, such as [`BENCH_PROFILE`].
-//! - The table has [`ROW_BYTES`] for each row, ordered by x, then y, then z, each position once. [`table()`] packs
-//!   and orders [`Row`]s; rows are numbered in that order, from 0.
-//! - A device column has a byte for each row: a repeater's or torch's is 1 where it is on, a comparator's is its
-//!   level, any other is 0.
-//! - A state has [`STATE_BYTES`] for each row. [`fresh`] writes it, and [`tick`] moves it on.
 //!
 //! # Refusals
 //!
 //! A call reads any bytes of any length. What it cannot settle it refuses, and then it has written to none of the
-//! buffers lent to it. [`Refusal`] has the number, the row at fault and a message that says what to do.
+//! buffers lent to it. [`Refusal`] has the number and the row that the call answered, and a [`Fault`] that says what
+//! exactly is wrong and what would be right.
+//!
+//! # Threads and stack
+//!
+//! There are no globals: any thread may call at any time. A call allocates nothing and uses 45 KB of stack; a thread
+//! with 48 KiB free is enough for it.
 
 #![deny(unsafe_code, unsafe_op_in_unsafe_fn)]
 #![warn(missing_docs)]

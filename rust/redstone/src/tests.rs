@@ -1,9 +1,11 @@
+mod build_script;
 mod calls;
 mod circuit;
 mod faults;
 mod header;
 mod programs;
 mod rows;
+mod rules;
 
 use crate::Columns;
 
