@@ -52,13 +52,21 @@
 mod answer;
 #[allow(unsafe_code)]
 mod c;
+mod code;
+mod fault;
+mod field;
 mod row;
+mod table;
 #[cfg(test)]
 mod tests;
 
 use answer::answer;
 pub use answer::{Refusal, RefusalKind, Rounds};
-pub use row::{Arm, Facing, Kind, Row, Shape, table};
+pub use code::{Arm, Facing, Kind, Shape, UnknownCode, UnknownName};
+pub use fault::Fault;
+pub use field::BadField;
+pub use row::{Row, RowError};
+pub use table::{find, rows, table};
 
 /// Bytes of a row of the table.
 pub const ROW_BYTES: usize = 32;
@@ -66,6 +74,8 @@ pub const ROW_BYTES: usize = 32;
 pub const STATE_BYTES: usize = 16;
 /// The most rows that a table may have.
 pub const MOST_ROWS: usize = 1024;
+/// The largest coordinate; its negative is the smallest.
+pub const FARTHEST: i32 = 1_000_000;
 
 /// The bench's own profile: solid blocks and lamps conduct, and they, transparent blocks and redstone blocks carry
 /// components.

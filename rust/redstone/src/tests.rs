@@ -1,2 +1,3 @@
 mod calls;
 mod header;
+mod rows;

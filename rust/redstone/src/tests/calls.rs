@@ -1,8 +1,8 @@
 //! The calls by hand: what they answer and write, and that each refusal comes through.
 
 use crate::{
-    Arm, BENCH_PROFILE, Columns, Facing, Kind, MOST_ROWS, ROW_BYTES, Refusal, Rounds, Row, STATE_BYTES,
-    Shape, fresh, settle, switch, table, tick,
+    BENCH_PROFILE, Columns, Kind, MOST_ROWS, ROW_BYTES, Refusal, Rounds, Row, STATE_BYTES, fresh, settle,
+    switch, table, tick,
 };
 
 const UNTOUCHED: u8 = 0xc3;
@@ -35,7 +35,7 @@ fn rounds(answer: Result<Rounds, Refusal>) -> u32 {
 
 /// A lamp with a lever on it.
 fn lamp(powered: bool) -> Vec<u8> {
-    let lever = Row::new(Kind::Lever, [0, 1, 0]).support([0, -1, 0]).powered(powered);
+    let lever = Row::new(Kind::Lever, [0, 1, 0]).with_support([0, -1, 0]).with_powered(powered);
     table([lever, Row::new(Kind::RedstoneLamp, [0, 0, 0])])
 }
 
@@ -120,36 +120,4 @@ fn fresh_and_switch_refuse_what_they_are_lent() {
     let refused = switch(&BENCH_PROFILE, &mut table, &state, [0, 1, 0], false, lent.columns());
     assert_eq!(refused, Err(Refusal { number: 6, row: 0 }));
     assert!(lent.untouched() && state.iter().all(|byte| *byte == UNTOUCHED) && table == lamp(true));
-}
-
-#[test]
-fn a_row_packs_each_field() {
-    let row = Row::new(Kind::Comparator, [1, -2, 1_000_000])
-        .facing(Facing::West)
-        .powered(true)
-        .power_level(200)
-        .delay(3)
-        .support([1, 0, -1])
-        .arms([Some(Arm::None), Some(Arm::Side), Some(Arm::Up), None])
-        .shape(Shape::Glass)
-        .subtract();
-    let bytes = [
-        [1, 0, 0, 0, 0xfe, 0xff, 0xff, 0xff],
-        [0x40, 0x42, 0x0f, 0, 6, 4, 2, 1],
-        [200, 1, 3, 1, 1, 0, 255, 1],
-        [1, 2, 3, 0, 6, 1, 0, 0],
-    ];
-    assert_eq!(row.bytes(), bytes.as_flattened());
-    assert_eq!(Row::new(Kind::Piston, [0; 3]).bytes()[12..], [[12].as_slice(), &[0; 19]].concat());
-    assert_eq!(Row::new(Kind::Lever, [0; 3]).powered(false).bytes()[14], 1);
-}
-
-#[test]
-fn a_table_is_ordered_by_x_then_y_then_z() {
-    let at = |position| Row::new(Kind::Solid, position);
-    let rows = [[-1, 5, 5], [0, -1, 9], [0, 0, -7], [0, 0, 300], [0, 1, 0], [256, 0, 0]].map(at);
-    let ordered = rows.map(|row| row.bytes());
-    let mut other = rows;
-    other.reverse();
-    assert_eq!(table(other), ordered.as_flattened());
 }
