@@ -9,7 +9,7 @@ use native.Mathlib.Omega.{arith}
 use lib.ListN.{length, getD, take, drop, length-append, length-take, length-drop, List·getD-append}
 use lib.Seq.{length-take-le, take-at, drop-at, drop-drop, getD-take, getD-drop, getD-append-add, take-length, drop-length}
 use borrow.Rule.Slice.PartMut.{putMid}
-use Rattle.columns.specs.Column.{part, joinedFrom, joined}
+use Rattle.columns.specs.Column.{part, concatRowsFrom, concatRows}
 
 -- a row of a list that is long enough is whole
 pub length-part : (w : ℕ) (s : List ℕ) (i : ℕ) → i * w + w ≤ length s → length (part w s i) ≡ w
@@ -20,79 +20,79 @@ pub part-at : (w : ℕ) (s : List ℕ) (i b : ℕ) → b < w → getD (part w s 
 part-at w s i b h = getD-take w (drop (i * w) s) b 0 h ∙ getD-drop (i * w) s b 0
 
 -- one row more at the end
-pub joined-more : (n i : ℕ) (f : ℕ → List ℕ) → joinedFrom i (n + 1) f ≡ joinedFrom i n f ++ f (i + n)
-unfolding joinedFrom
-joined-more zero i f = rw (add-zero, append-nil)
-joined-more (suc n) i f =
+pub concatRows-more : (n i : ℕ) (f : ℕ → List ℕ) → concatRowsFrom i (n + 1) f ≡ concatRowsFrom i n f ++ f (i + n)
+unfolding concatRowsFrom
+concatRows-more zero i f = rw (add-zero, append-nil)
+concatRows-more (suc n) i f =
     let e : suc n + 1 ≡ suc (n + 1) = omega arith in
     let k : suc i + n ≡ i + suc n = omega arith in
-    rw (e, joinedFrom, joined-more n (suc i) f, append-assoc, k)
+    rw (e, concatRowsFrom, concatRows-more n (suc i) f, append-assoc, k)
 
 module _ (w : ℕ) (f : ℕ → List ℕ) where
-  length-from : (n i : ℕ) → ((k : ℕ) → k < n → length (f (i + k)) ≡ w) → length (joinedFrom i n f) ≡ n * w
-  unfolding joinedFrom
+  length-from : (n i : ℕ) → ((k : ℕ) → k < n → length (f (i + k)) ≡ w) → length (concatRowsFrom i n f) ≡ n * w
+  unfolding concatRowsFrom
   length-from zero i h = rw zero-mul
   length-from (suc n) i h =
       let e : length (f i) ≡ w = rw (add-zero i) at (h 0 (omega arith)) in
-      let rest : length (joinedFrom (suc i) n f) ≡ n * w =
+      let rest : length (concatRowsFrom (suc i) n f) ≡ n * w =
       length-from n (suc i) (λ k l. let e : suc i + k ≡ i + suc k = omega arith in rw e (h (suc k) (omega arith))) in
       rw (length-append, e, rest, suc-mul) (omega arith)
 
   -- as long as its rows together
-  pub length-joined : (n : ℕ) → ((k : ℕ) → k < n → length (f k) ≡ w) → length (joined n f) ≡ n * w
-  length-joined n h = length-from n 0 (λ k l. rw (zero-add k) (h k l))
+  pub length-concatRows : (n : ℕ) → ((k : ℕ) → k < n → length (f k) ≡ w) → length (concatRows n f) ≡ n * w
+  length-concatRows n h = length-from n 0 (λ k l. rw (zero-add k) (h k l))
 
-  part-from : (n i : ℕ) → ((k : ℕ) → k < n → length (f (i + k)) ≡ w) → (j : ℕ) → j < n → part w (joinedFrom i n f) j ≡ f (i + j)
-  unfolding joinedFrom
+  part-from : (n i : ℕ) → ((k : ℕ) → k < n → length (f (i + k)) ≡ w) → (j : ℕ) → j < n → part w (concatRowsFrom i n f) j ≡ f (i + j)
+  unfolding concatRowsFrom
   part-from zero i h j l = absurd (not-suc-le-zero l)
   part-from (suc n) i h zero l =
       let e : length (f i) ≡ w = rw (add-zero i) at (h 0 (omega arith)) in
-      rw (zero-mul, add-zero i) (take-at (f i) (joinedFrom (suc i) n f) w e)
+      rw (zero-mul, add-zero i) (take-at (f i) (concatRowsFrom (suc i) n f) w e)
   part-from (suc n) i h (suc j) l =
       let e : length (f i) ≡ w = rw (add-zero i) at (h 0 (omega arith)) in
       let k : suc j * w ≡ w + j * w = suc-mul j w ∙ omega arith in
       let m : i + suc j ≡ suc i + j = omega arith in
-      let past : drop (suc j * w) (f i ++ joinedFrom (suc i) n f) ≡ drop (j * w) (joinedFrom (suc i) n f) =
-      ap (λ a. drop a (f i ++ joinedFrom (suc i) n f)) k ∙ sym (drop-drop (j * w) w (f i ++ joinedFrom (suc i) n f)) ∙ ap (drop (j * w)) (drop-at (f i) (joinedFrom (suc i) n f) w e) in
+      let past : drop (suc j * w) (f i ++ concatRowsFrom (suc i) n f) ≡ drop (j * w) (concatRowsFrom (suc i) n f) =
+      ap (λ a. drop a (f i ++ concatRowsFrom (suc i) n f)) k ∙ sym (drop-drop (j * w) w (f i ++ concatRowsFrom (suc i) n f)) ∙ ap (drop (j * w)) (drop-at (f i) (concatRowsFrom (suc i) n f) w e) in
       rw (past, m)
       (part-from n (suc i) (λ k l. let e : suc i + k ≡ i + suc k = omega arith in rw e (h (suc k) (omega arith))) j (omega arith))
 
   -- row j of the rows joined is f j
-  pub part-joined : (n : ℕ) → ((k : ℕ) → k < n → length (f k) ≡ w) → (j : ℕ) → j < n → part w (joined n f) j ≡ f j
-  part-joined n h j l = part-from n 0 (λ k m. rw (zero-add k) (h k m)) j l ∙ ap f (zero-add j)
+  pub part-concatRows : (n : ℕ) → ((k : ℕ) → k < n → length (f k) ≡ w) → (j : ℕ) → j < n → part w (concatRows n f) j ≡ f j
+  part-concatRows n h j l = part-from n 0 (λ k m. rw (zero-add k) (h k m)) j l ∙ ap f (zero-add j)
 
   -- entry b of row j of the rows joined
-  pub joined-at : (n : ℕ) → ((k : ℕ) → k < n → length (f k) ≡ w) → (j b : ℕ) → j < n → b < w → getD (joined n f) (j * w + b) 0 ≡ getD (f j) b 0
-  joined-at n h j b l m = sym (part-at w (joined n f) j b m) ∙ ap (λ r. getD r b 0) (part-joined n h j l)
+  pub concatRows-at : (n : ℕ) → ((k : ℕ) → k < n → length (f k) ≡ w) → (j b : ℕ) → j < n → b < w → getD (concatRows n f) (j * w + b) 0 ≡ getD (f j) b 0
+  concatRows-at n h j b l m = sym (part-at w (concatRows n f) j b m) ∙ ap (λ r. getD r b 0) (part-concatRows n h j l)
 
 -- ---- a loop that lends each row of s to be written: after i rows the list is the i new rows and the rest of s
 
 pub record Written (w : ℕ) (f : ℕ → List ℕ) (s : List ℕ) (i : ℕ) (now : List ℕ) : Type 0 where
-  pub long : length (joined i f) ≡ i * w
-  pub is : now ≡ joined i f ++ drop (i * w) s
+  pub long : length (concatRows i f) ≡ i * w
+  pub is : now ≡ concatRows i f ++ drop (i * w) s
 
 pub written-none : {w : ℕ} {f : ℕ → List ℕ} {s : List ℕ} → Written w f s 0 s
-unfolding joinedFrom
+unfolding concatRowsFrom
 written-none {w} = record { long = rw zero-mul; is = rw zero-mul }
 
 module _ {w : ℕ} {f : ℕ → List ℕ} {s : List ℕ} {i : ℕ} {now : List ℕ} (h : Written w f s i now) where
   -- the row that is lent is the row as it came
   pub written-lent : part w now i ≡ part w s i
-  written-lent = rw (h .is, drop-at (joined i f) (drop (i * w) s) (i * w) (h .long))
+  written-lent = rw (h .is, drop-at (concatRows i f) (drop (i * w) s) (i * w) (h .long))
 
   -- the row that comes back makes the list one row longer
   pub written-more : {r : List ℕ} → r ≡ f i → length r ≡ w → Written w f s (i + 1) (putMid (i * w) w now r)
   written-more {r} e l =
-      let more : joined (i + 1) f ≡ joined i f ++ f i = joined-more i 0 f ∙ ap (λ k. joined i f ++ f k) (zero-add i) in
+      let more : concatRows (i + 1) f ≡ concatRows i f ++ f i = concatRows-more i 0 f ∙ ap (λ k. concatRows i f ++ f k) (zero-add i) in
       let next : (i + 1) * w ≡ i * w + w = rw add-one (suc-mul i w) in
       record {
         long = rw (more, length-append, h .long, ← e, l, next);
         is =
-            rw (h .is, take-at (joined i f) (drop (i * w) s) (i * w) (h .long), drop-at (joined i f) (drop (i * w) s) (i * w) (h .long), drop-drop, more, append-assoc, e, next);
+            rw (h .is, take-at (concatRows i f) (drop (i * w) s) (i * w) (h .long), drop-at (concatRows i f) (drop (i * w) s) (i * w) (h .long), drop-drop, more, append-assoc, e, next);
       }
 
   -- once every row is written
-  pub written-all : (n : ℕ) → i ≡ n → length s ≡ n * w → now ≡ joined n f
+  pub written-all : (n : ℕ) → i ≡ n → length s ≡ n * w → now ≡ concatRows n f
   written-all n e l =
       let over : drop (n * w) s ≡ [] = rw (← l) (drop-length s) in
       rw (h .is, e, over, append-nil)

@@ -34,13 +34,13 @@ abbrev pub part : ℕ → List ℕ → ℕ → List ℕ
 part w s i = take w (drop (i * w) s)
 
 -- the n rows f i, f (i + 1), .., one after the other
-unfoldable pub joinedFrom : ℕ → ℕ → (ℕ → List ℕ) → List ℕ
-joinedFrom i zero f = []
-joinedFrom i (suc n) f = f i ++ joinedFrom (suc i) n f
+unfoldable pub concatRowsFrom : ℕ → ℕ → (ℕ → List ℕ) → List ℕ
+concatRowsFrom i zero f = []
+concatRowsFrom i (suc n) f = f i ++ concatRowsFrom (suc i) n f
 
 -- the rows f 0 to f (n - 1), one after the other
-abbrev pub joined : ℕ → (ℕ → List ℕ) → List ℕ
-joined n f = joinedFrom 0 n f
+abbrev pub concatRows : ℕ → (ℕ → List ℕ) → List ℕ
+concatRows n f = concatRowsFrom 0 n f
 
 -- ---- lists
 

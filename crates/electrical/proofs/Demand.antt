@@ -11,7 +11,7 @@ use Rattle.columns.specs.Column.{Bytes, Column, row}
 use Rattle.columns.specs.Signal.{maxSignal}
 use Rattle.columns.proofs.Truth.{or-false, and-false-left, and-false-right}
 use Rattle.network.specs.Network.{State, Rounds, Satisfies, Breaks}
-use Rattle.network.specs.Compare.{Larger, AtMost, Within, Rows, States, Bounded, OnMap}
+use Rattle.network.specs.Compare.{Larger, AtMost, Within, AtEveryRow₂, AtEveryRow₃, States₂, States₃, Bounded, PowerOnMap}
 use Rattle.network.specs.Demand as Network
 use Rattle.blocks.specs.Kind.{isDust}
 use Rattle.world.specs.Rows.{rows, kindOf}
@@ -20,7 +20,7 @@ use Rattle.refusals.specs.declared.Checked.{Checked}
 use Rattle.refusals.specs.declared.Checked.the-variants.{Accepted, Refused}
 use Rattle.refusals.specs.Check.{orElse}
 use Rattle.electrical.specs.Emitted.{IsValid, emitted}
-use Rattle.electrical.specs.Edges.{strongly, through, under, networkOf}
+use Rattle.electrical.specs.Edges.{emittedToStrong, strongToWeak, dustToWeak, networkOf}
 use Rattle.electrical.specs.Answer.{roundsOf, settled, checkCall, checkSettle}
 use Rattle.electrical.specs.Join.{largerOf, Joined, Called}
 use Rattle.electrical.proofs.Emitted.{emitted-larger, emitted-byte}
@@ -70,8 +70,8 @@ module _ (p t : Bytes) (d : Column) where
 -- ---- "Joining two device columns by the larger number at each row gives the larger signal, weak and strong power at each row; the
 -- joined rounds are at most the larger"
 
-module _ (p t : Bytes) {a b c : Column} (j : Rows Larger a b c) where
-  pub settled-join : States Larger (settled p t a) (settled p t b) (settled p t c)
+module _ (p t : Bytes) {a b c : Column} (j : AtEveryRow₃ Larger a b c) where
+  pub settled-join : States₃ Larger (settled p t a) (settled p t b) (settled p t c)
   unfolding settled
   settled-join = Network.settled-larger (networkOf p t) (emitted-larger t j)
 
@@ -122,11 +122,11 @@ module _ {p t : Bytes} {d : Column} {limit : ℕ} {signal weak strong signal′ 
 
 -- three calls, of two columns and of their join, each with a limit of its own that is enough: the third leaves at each row the
 -- larger of what the others leave, and answers at most the larger answer, and at most 17
-module _ {p t : Bytes} {a b c : Column} (j : Rows Larger a b c) {k l m : ℕ}
+module _ {p t : Bytes} {a b c : Column} (j : AtEveryRow₃ Larger a b c) {k l m : ℕ}
     {s₁ w₁ g₁ s₂ w₂ g₂ s₃ w₃ g₃ s₁′ w₁′ g₁′ s₂′ w₂′ g₂′ s₃′ w₃′ g₃′ : Column} {x y z : ℕ}
     (first : Called p t a k s₁ w₁ g₁ s₁′ w₁′ g₁′ x) (second : Called p t b l s₂ w₂ g₂ s₂′ w₂′ g₂′ y) (third : Called p t c m s₃ w₃ g₃ s₃′ w₃′ g₃′ z)
     (hk : roundsOf p t a ≤ k) (hl : roundsOf p t b ≤ l) (hm : roundsOf p t c ≤ m) where
-  pub written-join : (Rows Larger s₁′ s₂′ s₃′ × Rows Larger w₁′ w₂′ w₃′ × Rows Larger g₁′ g₂′ g₃′) × (z ≤ max x y) × (z ≤ 17)
+  pub written-join : (AtEveryRow₃ Larger s₁′ s₂′ s₃′ × AtEveryRow₃ Larger w₁′ w₂′ w₃′ × AtEveryRow₃ Larger g₁′ g₂′ g₃′) × (z ≤ max x y) × (z ≤ 17)
   written-join =
       let (x-is, s₁-is, w₁-is, g₁-is) = settles first hk in
       let (y-is, s₂-is, w₂-is, g₂-is) = settles second hl in
@@ -140,13 +140,13 @@ module _ {p t : Bytes} {a b c : Column} (j : Rows Larger a b c) {k l m : ℕ}
 -- ---- what the calls above need besides
 
 -- power reaches only rows of the map
-pub on-map : (p t : Bytes) → OnMap (networkOf p t)
-unfolding networkOf strongly through under
+pub on-map : (p t : Bytes) → PowerOnMap (networkOf p t)
+unfolding networkOf emittedToStrong strongToWeak dustToWeak
 on-map p t =
     record {
-      strongly = λ j i h. and-false-left _ _ (or-false (traits p t i .weak) _ h .1);
-      through = λ j i h. and-false-left _ _ (or-false (traits p t i .weak) _ h .0);
-      under = λ j i h. and-false-right (isDust (kindOf t j)) _ (and-false-left _ _ (or-false (traits p t i .weak) _ h .0));
+      emittedToStrong = λ j i h. and-false-left _ _ (or-false (traits p t i .weak) _ h .1);
+      strongToWeak = λ j i h. and-false-left _ _ (or-false (traits p t i .weak) _ h .0);
+      dustToWeak = λ j i h. and-false-right (isDust (kindOf t j)) _ (and-false-left _ _ (or-false (traits p t i .weak) _ h .0));
     }
 
 module _ (p t : Bytes) (d : Column) where
@@ -162,10 +162,10 @@ module _ (p t : Bytes) (d : Column) where
 
 -- emitted levels that differ by at most n settle to numbers that differ by at most n; where none is lower, no settled number is
 module _ (p t : Bytes) (a b : Column) where
-  pub settled-differ : (n : ℕ) → Rows (Within n) (emitted t a) (emitted t b) (emitted t b) → States (Within n) (settled p t a) (settled p t b) (settled p t b)
+  pub settled-differ : (n : ℕ) → AtEveryRow₂ (Within n) (emitted t a) (emitted t b) → States₂ (Within n) (settled p t a) (settled p t b)
   unfolding settled
   settled-differ n h = Network.settled-within (networkOf p t) n h
 
-  pub settled-rise : Rows AtMost (emitted t a) (emitted t b) (emitted t b) → States AtMost (settled p t a) (settled p t b) (settled p t b)
+  pub settled-rise : AtEveryRow₂ AtMost (emitted t a) (emitted t b) → States₂ AtMost (settled p t a) (settled p t b)
   unfolding settled
   settled-rise h = Network.settled-at-most (networkOf p t) h

@@ -14,7 +14,7 @@ use Rattle.columns.specs.Column.{Bytes, Column, row, tabulate}
 use Rattle.columns.specs.First.{firstFrom}
 use Rattle.columns.proofs.Columns.{length-tabulate, row-tabulate}
 use Rattle.columns.proofs.First.{first-none, none-first}
-use Rattle.network.specs.Compare.{Larger, Rows}
+use Rattle.network.specs.Compare.{Larger, AtEveryRow₃}
 use Rattle.world.specs.Rows.{rows, kindOf}
 use Rattle.refusals.specs.declared.Checked.the-variants.{Accepted}
 use Rattle.refusals.proofs.Passed.{passed-unless, passed-at}
@@ -46,7 +46,7 @@ good-larger : (k x y : ℕ) → goodDevice k x ≡ true → goodDevice k y ≡ t
 good-larger k x y g h = ⊎-elim (λ e. rw e g) (λ e. rw e h) (one-of x y)
 
 module _ (t : Bytes) {a b : Column} (va : Devices t a) (vb : Devices t b) where
-  pub is-larger : Rows Larger a b (largerOf a b)
+  pub is-larger : AtEveryRow₃ Larger a b (largerOf a b)
   unfolding largerOf
   is-larger = record { at = λ i. by-cases (decLt i (length a)) (λ l. sym (row-tabulate (length a) _ i l)) (λ n. past i (omega arith)) }
     where

@@ -10,7 +10,7 @@ use native.Mathlib.Omega.{arith}
 use lib.Dec.{eqb, eqb·suc-zero}
 use Rattle.columns.specs.Column.{Bytes, Column, row}
 use Rattle.columns.specs.Signal.{maxSignal}
-use Rattle.network.specs.Compare.{Larger, Rows}
+use Rattle.network.specs.Compare.{Larger, AtEveryRow₃}
 use Rattle.columns.proofs.Columns.{row-tabulate}
 use Rattle.network.specs.Laws.Kept.{row-past, tabulate-kept}
 use Rattle.network.specs.Laws.Join.{larger-kept, rises-larger}
@@ -35,7 +35,7 @@ level-rises t i x y h =
     (cond-rises (isOnOff (kindOf t i)) (lit-rises x y h) (cond-rises (eqb (kindOf t i) Comparator) h zero-le)))
 
 -- of the row-wise larger of two device columns the emitted levels are the larger ones
-pub emitted-larger : (t : Bytes) {a b c : Column} → Rows Larger a b c → Rows Larger (emitted t a) (emitted t b) (emitted t c)
+pub emitted-larger : (t : Bytes) {a b c : Column} → AtEveryRow₃ Larger a b c → AtEveryRow₃ Larger (emitted t a) (emitted t b) (emitted t c)
 unfolding emitted
 emitted-larger t h =
     tabulate-kept larger-kept (rows t) (λ i. rises-larger (emittedLevel t i) (level-rises t i) _ _ ∙ ap (emittedLevel t i) (h .at i))

@@ -25,8 +25,8 @@ module _ (t : Bytes) (j i : ℕ) where
   outputsTo = isDiode (kindOf t j) && isAt (outputOf t j) (posOf t i)
 
   -- row i is the support of the lever, button or plate j
-  unfoldable pub isHeldBy : Bool
-  isHeldBy = isSwitch (kindOf t j) && isAt (supportOf t j) (posOf t i)
+  unfoldable pub isSupportOf : Bool
+  isSupportOf = isSwitch (kindOf t j) && isAt (supportOf t j) (posOf t i)
 
   -- row i is one of the six neighbours of the redstone block j
   unfoldable pub isCharged : Bool
@@ -40,12 +40,12 @@ module _ (t : Bytes) (j i : ℕ) where
 module _ (p t : Bytes) (j i : ℕ) where
   -- "Strong power: lever, button, plate reach their support, repeater and comparator their output, redstone block its six
   -- neighbours, where the target receives strong"
-  unfoldable pub strongly : Bool
-  strongly = traits p t i .strong && (isHeldBy t j i || (outputsTo t j i || isCharged t j i))
+  unfoldable pub emittedToStrong : Bool
+  emittedToStrong = traits p t i .strong && (isSupportOf t j i || (outputsTo t j i || isCharged t j i))
 
   -- "a strongly powered block reaches its six neighbours .. where the target receives weak"
-  unfoldable pub through : Bool
-  through = traits p t i .weak && adjacent (posOf t j) (posOf t i)
+  unfoldable pub strongToWeak : Bool
+  strongToWeak = traits p t i .weak && adjacent (posOf t j) (posOf t i)
 
   -- row i is beside dust j along the facing f, and j has that arm
   unfoldable pub armTo : ℕ → Bool
@@ -56,8 +56,8 @@ module _ (p t : Bytes) (j i : ℕ) where
   alongArm = someOf armTo horizontals
 
   -- "dust reaches the block below and along its arms, where the target receives weak"
-  unfoldable pub under : Bool
-  under = isDust (kindOf t j) && (traits p t i .weak && (samePos (below (posOf t j)) (posOf t i) || alongArm))
+  unfoldable pub dustToWeak : Bool
+  dustToWeak = isDust (kindOf t j) && (traits p t i .weak && (samePos (below (posOf t j)) (posOf t i) || alongArm))
 
 -- what arrives at the dust i
 module _ (p t : Bytes) (j i : ℕ) where
@@ -67,12 +67,12 @@ module _ (p t : Bytes) (j i : ℕ) where
       samePos (above (posOf t i)) (posOf t j) || (samePos (below (posOf t i)) (posOf t j) || alongArm p t i j)
 
   -- the direct level is the emitted level
-  unfoldable pub lights : Bool
-  lights = isDust (kindOf t i) && (feeds t j i && touches)
+  unfoldable pub emittedToDust : Bool
+  emittedToDust = isDust (kindOf t i) && (feeds t j i && touches)
 
   -- "otherwise strong power where the neighbour drives dust"
-  unfoldable pub drives : Bool
-  drives = isDust (kindOf t i) && (not (feeds t j i) && (traits p t j .drives && touches))
+  unfoldable pub strongToDust : Bool
+  strongToDust = isDust (kindOf t i) && (not (feeds t j i) && (traits p t j .drives && touches))
 
 -- "The map holds the rows that receive weak or strong"
 unfoldable pub networkOf : Bytes → Bytes → Network
@@ -81,10 +81,10 @@ networkOf p t =
       size = rows t;
       dust = λ i. isDust (kindOf t i);
       mapped = λ i. conducts (traits p t i);
-      strongly = strongly p t;
-      through = through p t;
-      under = under p t;
+      emittedToStrong = emittedToStrong p t;
+      strongToWeak = strongToWeak p t;
+      dustToWeak = dustToWeak p t;
       transmits = transmits p t;
-      lights = lights p t;
-      drives = drives p t;
+      emittedToDust = emittedToDust p t;
+      strongToDust = strongToDust p t;
     }

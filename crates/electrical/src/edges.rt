@@ -17,7 +17,7 @@ ghost use mathlib.Core.Bool.{_||_};
 ghost use Rattle.blocks.specs.Kind.{isSwitch};
 ghost use Rattle.places.specs.Places.{beside, below, samePos, adjacent, isAt};
 ghost use Rattle.world.specs.Rows.{posOf};
-ghost use Rattle.electrical.specs.Edges.{outputsTo, isHeldBy, isCharged, strongly, through, armTo, alongArm, under, touches, feeds, lights, drives};
+ghost use Rattle.electrical.specs.Edges.{outputsTo, isSupportOf, isCharged, emittedToStrong, strongToWeak, armTo, alongArm, dustToWeak, touches, feeds, emittedToDust, strongToDust};
 
 // Lever, button and plate.
 fn is_switch(kind: u8) -> bool
@@ -66,8 +66,8 @@ pub fn outputs_to(table: &[u8], j: usize, i: usize) -> bool
 }
 
 // Whether row i is the support of the lever, button or plate j.
-fn is_held_by(table: &[u8], j: usize, i: usize) -> bool
-    ensures { λ r. ⌜ r ≡ isHeldBy (now (table .entry)) j i ⌝ }
+fn is_support_of(table: &[u8], j: usize, i: usize) -> bool
+    ensures { λ r. ⌜ r ≡ isSupportOf (now (table .entry)) j i ⌝ }
 {
     if is_switch(kind_of(table, j)) {
         return is_at(support_pos(table, j), pos_of(table, i));
@@ -86,18 +86,18 @@ fn is_charged(table: &[u8], j: usize, i: usize) -> bool
 }
 
 // Strong power: from a switch to its support, from a device to its output, from a redstone block to its neighbours.
-pub fn strongly(profile: &[u8], table: &[u8], j: usize, i: usize) -> bool
-    ensures { λ r. ⌜ r ≡ strongly (now (profile .entry)) (now (table .entry)) j i ⌝ }
+pub fn emitted_to_strong(profile: &[u8], table: &[u8], j: usize, i: usize) -> bool
+    ensures { λ r. ⌜ r ≡ emittedToStrong (now (profile .entry)) (now (table .entry)) j i ⌝ }
 {
-    if is_held_by(table, j, i) | (outputs_to(table, j, i) | is_charged(table, j, i)) {
+    if is_support_of(table, j, i) | (outputs_to(table, j, i) | is_charged(table, j, i)) {
         return redstone_traits(profile, table, i).strong;
     }
     false
 }
 
 // Weak power, from a strongly powered block to its neighbours.
-pub fn through(profile: &[u8], table: &[u8], j: usize, i: usize) -> bool
-    ensures { λ r. ⌜ r ≡ through (now (profile .entry)) (now (table .entry)) j i ⌝ }
+pub fn strong_to_weak(profile: &[u8], table: &[u8], j: usize, i: usize) -> bool
+    ensures { λ r. ⌜ r ≡ strongToWeak (now (profile .entry)) (now (table .entry)) j i ⌝ }
 {
     if redstone_traits(profile, table, i).weak {
         return is_adjacent(pos_of(table, j), pos_of(table, i));
@@ -138,8 +138,8 @@ fn reaches(profile: &[u8], table: &[u8], j: usize, i: usize) -> bool
 }
 
 // Weak power, from dust to the block below it and along its arms.
-pub fn under(profile: &[u8], table: &[u8], j: usize, i: usize) -> bool
-    ensures { λ r. ⌜ r ≡ under (now (profile .entry)) (now (table .entry)) j i ⌝ }
+pub fn dust_to_weak(profile: &[u8], table: &[u8], j: usize, i: usize) -> bool
+    ensures { λ r. ⌜ r ≡ dustToWeak (now (profile .entry)) (now (table .entry)) j i ⌝ }
 {
     if kind_of(table, j) != kind::REDSTONE_WIRE {
         return false;
@@ -171,8 +171,8 @@ fn feeds(table: &[u8], j: usize, i: usize) -> bool
 }
 
 // The direct level of dust i from row j is what j emits.
-pub fn lights(profile: &[u8], table: &[u8], j: usize, i: usize) -> bool
-    ensures { λ r. ⌜ r ≡ lights (now (profile .entry)) (now (table .entry)) j i ⌝ }
+pub fn emitted_to_dust(profile: &[u8], table: &[u8], j: usize, i: usize) -> bool
+    ensures { λ r. ⌜ r ≡ emittedToDust (now (profile .entry)) (now (table .entry)) j i ⌝ }
 {
     if kind_of(table, i) != kind::REDSTONE_WIRE {
         return false;
@@ -184,8 +184,8 @@ pub fn lights(profile: &[u8], table: &[u8], j: usize, i: usize) -> bool
 }
 
 // The direct level of dust i from row j is j's strong power.
-pub fn drives(profile: &[u8], table: &[u8], j: usize, i: usize) -> bool
-    ensures { λ r. ⌜ r ≡ drives (now (profile .entry)) (now (table .entry)) j i ⌝ }
+pub fn strong_to_dust(profile: &[u8], table: &[u8], j: usize, i: usize) -> bool
+    ensures { λ r. ⌜ r ≡ strongToDust (now (profile .entry)) (now (table .entry)) j i ⌝ }
 {
     if kind_of(table, i) != kind::REDSTONE_WIRE {
         return false;

@@ -8,9 +8,9 @@ use Rattle.columns.specs.Column.{Bytes}
 use Rattle.columns.proofs.Truth.{and-false-left}
 use Rattle.network.specs.Levels.{arriving}
 use Rattle.network.specs.Laws.Gather.{arriving-next}
-use Rattle.electrical.specs.Edges.{strongly, through, lights, drives}
+use Rattle.electrical.specs.Edges.{emittedToStrong, strongToWeak, emittedToDust, strongToDust}
 use Rattle.gather.specs.declared.arrivals.Edge.{Edge}
-use Rattle.gather.specs.declared.arrivals.Edge.the-variants.{Strongly, Through, Lights, Drives}
+use Rattle.gather.specs.declared.arrivals.Edge.the-variants.{EmittedToStrong, StrongToWeak, EmittedToDust, StrongToDust}
 use Rattle.gather.specs.Arrivals.{reaches, receives}
 
 module _ (n : ℕ) (edge : ℕ → ℕ → Bool) (f : ℕ → ℕ) (i : ℕ) {best : ℕ} (h : best ≡ arriving n edge f i) where
@@ -35,8 +35,8 @@ module _ (n : ℕ) (edge : ℕ → ℕ → Bool) (f : ℕ → ℕ) (i : ℕ) {be
 
 -- where nothing can arrive there is no edge
 pub none-reaches : (e : Edge) (p t : Bytes) (i : ℕ) → receives e p t i ≡ false → (j : ℕ) → reaches e p t j i ≡ false
-unfolding strongly through lights drives
-none-reaches Strongly p t i h j = and-false-left _ _ h
-none-reaches Through p t i h j = and-false-left _ _ h
-none-reaches Lights p t i h j = and-false-left _ _ h
-none-reaches Drives p t i h j = and-false-left _ _ h
+unfolding emittedToStrong strongToWeak emittedToDust strongToDust
+none-reaches EmittedToStrong p t i h j = and-false-left _ _ h
+none-reaches StrongToWeak p t i h j = and-false-left _ _ h
+none-reaches EmittedToDust p t i h j = and-false-left _ _ h
+none-reaches StrongToDust p t i h j = and-false-left _ _ h

@@ -1,4 +1,4 @@
 pub mod Arriving
-pub mod Seeking
+pub mod Halving
 pub mod Near
 pub mod Slotted

@@ -11,7 +11,7 @@ use Rattle.columns.proofs.Truth.{and-true, or-true}
 use Rattle.columns.proofs.Members.{all-member}
 use Rattle.blocks.specs.Kind.{isDust}
 use Rattle.places.specs.declared.Pos.{Pos}
-use Rattle.places.specs.Signed.{none, one, minusOne}
+use Rattle.places.specs.Signed.{zeroZ, one, minusOne}
 use Rattle.places.specs.Places.{North, East, South, West, horizontals, opposite, beside, above, below, samePos}
 use Rattle.places.proofs.Order.{samePos-true}
 use Rattle.places.proofs.Steps.{InRange, sideways, offset-back, sideways-back, opposite-horizontal, above-beside, below-beside, aroundAlong, around}
@@ -21,7 +21,7 @@ use Rattle.refusals.specs.Accepted.{Table}
 use Rattle.refusals.proofs.Accepted.{in-range}
 use Rattle.wire.specs.Transfer.{transmits}
 use Rattle.wire.proofs.Around.{transmits-around}
-use Rattle.electrical.specs.Edges.{someOf, armTo, alongArm, under}
+use Rattle.electrical.specs.Edges.{someOf, armTo, alongArm, dustToWeak}
 use Rattle.gather.specs.Slots.{aroundAt, overAt}
 
 -- the position n is the one at some k below w
@@ -36,7 +36,7 @@ module _ (q : Pos) (r : InRange q) where
   lower : (k f : ℕ) → k < 12 → List·Memᴰ f horizontals → aroundAt q k ≡ below (beside q f) → Among 12 (aroundAt q) (sideways q f minusOne)
   lower k f h m e = record { place = k; inside = h; is = e ∙ below-beside q r f m }
 
-  beside-it : (k f : ℕ) → k < 12 → aroundAt q k ≡ sideways q f none → Among 12 (aroundAt q) (sideways q f none)
+  beside-it : (k f : ℕ) → k < 12 → aroundAt q k ≡ sideways q f zeroZ → Among 12 (aroundAt q) (sideways q f zeroZ)
   beside-it k f h e = record { place = k; inside = h; is = e }
 
   upper : (k f : ℕ) → k < 12 → List·Memᴰ f horizontals → aroundAt q k ≡ above (beside q f) → Among 12 (aroundAt q) (sideways q f one)
@@ -142,7 +142,7 @@ module _ (p t : Bytes) (a : Table t) (j i : ℕ) (h : j < rows t) where
   from-above e =
       let down : below (posOf t j) ≡ posOf t i = samePos-true _ _ e in
       let back : above (posOf t i) ≡ posOf t j =
-      ap above (sym down) ∙ offset-back (posOf t j) (in-range t a j h) none minusOne none (omega arith) (omega arith) (omega arith) in
+      ap above (sym down) ∙ offset-back (posOf t j) (in-range t a j h) zeroZ minusOne zeroZ (omega arith) (omega arith) (omega arith) in
       rw back at (over-above (posOf t i))
 
   from-side : alongArm p t j i ≡ true → Among 5 (overAt (posOf t i)) (posOf t j)
@@ -151,12 +151,12 @@ module _ (p t : Bytes) (a : Table t) (j i : ℕ) (h : j < rows t) where
       let s : Some (armTo p t j i) horizontals = some-true (armTo p t j i) horizontals e in
       let side : beside (posOf t j) (s .along) ≡ posOf t i = samePos-true _ _ (and-true (samePos (beside (posOf t j) (s .along)) (posOf t i)) _ (s .passes) .0) in
       let back : beside (posOf t i) (opposite (s .along)) ≡ posOf t j =
-      ap (λ q. beside q (opposite (s .along))) (sym side) ∙ sideways-back (posOf t j) (in-range t a j h) (s .along) (s .inside) none (omega arith) in
+      ap (λ q. beside q (opposite (s .along))) (sym side) ∙ sideways-back (posOf t j) (in-range t a j h) (s .along) (s .inside) zeroZ (omega arith) in
       rw back at (over-side (posOf t i) (opposite (s .along)) (opposite-horizontal (posOf t j) (in-range t a j h) (s .along) (s .inside)))
 
   -- dust j gives block i weak power
-  pub under-near : under p t j i ≡ true → Among 5 (overAt (posOf t i)) (posOf t j)
-  unfolding under
-  under-near e =
+  pub dustToWeak-near : dustToWeak p t j i ≡ true → Among 5 (overAt (posOf t i)) (posOf t j)
+  unfolding dustToWeak
+  dustToWeak-near e =
       ⊎-elim from-above from-side
       (or-true (samePos (below (posOf t j)) (posOf t i)) _ (and-true (traits p t i .weak) _ (and-true (isDust (kindOf t j)) _ e .1) .1))

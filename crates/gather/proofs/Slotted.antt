@@ -25,11 +25,11 @@ use Rattle.refusals.specs.Accepted.{Table}
 use Rattle.refusals.proofs.Accepted.{find-at}
 use Rattle.wire.specs.Transfer.{transmits}
 use Rattle.wire.proofs.Around.{transmits-dust}
-use Rattle.electrical.specs.Edges.{under}
+use Rattle.electrical.specs.Edges.{dustToWeak}
 use Rattle.gather.specs.Slots.{aroundAt, overAt, noRow, slotOf, feederAt, underAt, feeders, unders}
 use Rattle.network.specs.Laws.Top.{top-same, top-less}
-use Rattle.gather.proofs.Seeking.{sought-is}
-use Rattle.gather.proofs.Near.{Among, transmits-near, under-near}
+use Rattle.gather.proofs.Halving.{byHalves-is}
+use Rattle.gather.proofs.Near.{Among, transmits-near, dustToWeak-near}
 
 -- ---- slots at the positions from which the edges to row i can come
 
@@ -90,15 +90,15 @@ module _ (p t : Bytes) (a : Table t) (i : ℕ) (l : i < rows t) where
       let row-is : (i * 12 + k) / 12 ≡ i = omega arith in
       let slot-is : (i * 12 + k) % 12 ≡ k = omega arith in
       row-tabulate (rows t * 12) (λ m. feederAt p t (m / 12) (m % 12)) (i * 12 + k) (omega arith)
-      ∙ rw (row-is, slot-is, sought-is t a (aroundAt (posOf t i) k)) (guarded (isDust (kindOf t i)) _ _ (λ j e. transmits-dust p t j i e .1))
+      ∙ rw (row-is, slot-is, byHalves-is t a (aroundAt (posOf t i) k)) (guarded (isDust (kindOf t i)) _ _ (λ j e. transmits-dust p t j i e .1))
 
-  under-row : (k : ℕ) → k < 5 → row (unders p t (rows t * 5)) (i * 5 + k) ≡ slotOf (λ j. under p t j i) (find t (overAt (posOf t i) k))
-  unfolding underAt under
-  under-row k h =
+  dustToWeak-row : (k : ℕ) → k < 5 → row (unders p t (rows t * 5)) (i * 5 + k) ≡ slotOf (λ j. dustToWeak p t j i) (find t (overAt (posOf t i) k))
+  unfolding underAt dustToWeak
+  dustToWeak-row k h =
       let row-is : (i * 5 + k) / 5 ≡ i = omega arith in
       let slot-is : (i * 5 + k) % 5 ≡ k = omega arith in
       row-tabulate (rows t * 5) (λ m. underAt p t (m / 5) (m % 5)) (i * 5 + k) (omega arith)
-      ∙ rw (row-is, slot-is, sought-is t a (overAt (posOf t i) k))
+      ∙ rw (row-is, slot-is, byHalves-is t a (overAt (posOf t i) k))
       (guarded (traits p t i .weak) _ _ (λ j e. and-true (traits p t i .weak) _ (and-true (isDust (kindOf t j)) _ e .1) .0))
 
 module _ (p t : Bytes) (a : Table t) (s : Column) (sized : length s ≡ rows t) (i : ℕ) (l : i < rows t) where
@@ -114,7 +114,7 @@ module _ (p t : Bytes) (a : Table t) (s : Column) (sized : length s ≡ rows t) 
       ∙ ap (λ x. x - 1) (top-same 12 _ _ (λ k h. ap (row s) (sym (feeder-row p t a i l k h))))
 
   -- "dust reaches the block below and along its arms"
-  pub arriving-unders : arriving (rows t) (under p t) (row s) i ≡ top 5 (λ k. row s (row (unders p t (rows t * 5)) (i * 5 + k)))
+  pub arriving-unders : arriving (rows t) (dustToWeak p t) (row s) i ≡ top 5 (λ k. row s (row (unders p t (rows t * 5)) (i * 5 + k)))
   arriving-unders =
-      arriving-slots t a (under p t) i 5 (overAt (posOf t i)) (λ j h. under-near p t a j i h) (row s) none-level
-      ∙ top-same 5 _ _ (λ k h. ap (row s) (sym (under-row p t a i l k h)))
+      arriving-slots t a (dustToWeak p t) i 5 (overAt (posOf t i)) (λ j h. dustToWeak-near p t a j i h) (row s) none-level
+      ∙ top-same 5 _ _ (λ k h. ap (row s) (sym (dustToWeak-row p t a i l k h)))

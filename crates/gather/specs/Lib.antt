@@ -1,3 +1,3 @@
 pub mod Arrivals
-pub mod Seek
+pub mod Halves
 pub mod Slots

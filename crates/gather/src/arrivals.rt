@@ -17,20 +17,20 @@ ghost use Rattle.gather.specs.Arrivals.{reaches, receives, directAt};
 
 // The edges from such sources.
 pub enum Edge {
-    Strongly,
-    Through,
-    Lights,
-    Drives,
+    EmittedToStrong,
+    StrongToWeak,
+    EmittedToDust,
+    StrongToDust,
 }
 
 fn reaches(edge: Edge, profile: &[u8], table: &[u8], j: usize, i: usize) -> bool
     ensures { λ r. ⌜ r ≡ reaches edge (now (profile .entry)) (now (table .entry)) j i ⌝ }
 {
     match edge {
-        Edge::Strongly => edges::strongly(profile, table, j, i),
-        Edge::Through => edges::through(profile, table, j, i),
-        Edge::Lights => edges::lights(profile, table, j, i),
-        Edge::Drives => edges::drives(profile, table, j, i),
+        Edge::EmittedToStrong => edges::emitted_to_strong(profile, table, j, i),
+        Edge::StrongToWeak => edges::strong_to_weak(profile, table, j, i),
+        Edge::EmittedToDust => edges::emitted_to_dust(profile, table, j, i),
+        Edge::StrongToDust => edges::strong_to_dust(profile, table, j, i),
     }
 }
 
@@ -39,10 +39,10 @@ fn receives(edge: Edge, profile: &[u8], table: &[u8], i: usize) -> bool
     ensures { λ r. ⌜ r ≡ receives edge (now (profile .entry)) (now (table .entry)) i ⌝ }
 {
     match edge {
-        Edge::Strongly => redstone_traits(profile, table, i).strong,
-        Edge::Through => redstone_traits(profile, table, i).weak,
-        Edge::Lights => kind_of(table, i) == kind::REDSTONE_WIRE,
-        Edge::Drives => kind_of(table, i) == kind::REDSTONE_WIRE,
+        Edge::EmittedToStrong => redstone_traits(profile, table, i).strong,
+        Edge::StrongToWeak => redstone_traits(profile, table, i).weak,
+        Edge::EmittedToDust => kind_of(table, i) == kind::REDSTONE_WIRE,
+        Edge::StrongToDust => kind_of(table, i) == kind::REDSTONE_WIRE,
     }
 }
 
@@ -88,8 +88,8 @@ pub fn fill_direct(profile: &[u8], table: &[u8], emitted: &[u8], charged: &[u8],
     ensures { λ _. ⌜ now (out .exit) ≡ tabulate (length (now (out .entry))) (directAt (now (profile .entry)) (now (table .entry)) (now (emitted .entry)) (now (charged .entry))) ⌝ }
 {
     for i in 0..out.len() {
-        let lit = arriving(Edge::Lights, profile, table, emitted, i);
-        let driven = arriving(Edge::Drives, profile, table, charged, i);
+        let lit = arriving(Edge::EmittedToDust, profile, table, emitted, i);
+        let driven = arriving(Edge::StrongToDust, profile, table, charged, i);
         out[i] = larger(lit, driven);
     }
 }

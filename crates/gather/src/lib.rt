@@ -1,4 +1,4 @@
 // What settling computes once, before the rounds: emitted levels, what arrives from sources that no round changes, and the rows of dust that feed.
 pub mod arrivals;
-mod seek;
+mod halves;
 pub mod slots;

@@ -1,8 +1,8 @@
 // The slots of the dust that feeds: the rows found at the positions from which a dust's level can reach a row.
-use crate::seek::seek;
+use crate::halves::find_by_halves;
 use blocks::kind;
 use columns::Found;
-use electrical::edges::under;
+use electrical::edges::dust_to_weak;
 use places::Facing;
 use places::Pos;
 use wire::transfer::transmits;
@@ -96,7 +96,7 @@ pub fn feeder_at(profile: &[u8], table: &[u8], i: usize, k: u8) -> u16
     if kind_of(table, i) != kind::REDSTONE_WIRE {
         return NO_ROW;
     }
-    let Found::At(j) = seek(table, around_at(pos_of(table, i), k)) else {
+    let Found::At(j) = find_by_halves(table, around_at(pos_of(table, i), k)) else {
         return NO_ROW;
     };
     slot_of(j, transmits(profile, table, j, i))
@@ -109,10 +109,10 @@ pub fn under_at(profile: &[u8], table: &[u8], i: usize, k: u8) -> u16
     if !redstone_traits(profile, table, i).weak {
         return NO_ROW;
     }
-    let Found::At(j) = seek(table, over_at(pos_of(table, i), k)) else {
+    let Found::At(j) = find_by_halves(table, over_at(pos_of(table, i), k)) else {
         return NO_ROW;
     };
-    slot_of(j, under(profile, table, j, i))
+    slot_of(j, dust_to_weak(profile, table, j, i))
 }
 
 // The slots of the dust that transmits, twelve a row.

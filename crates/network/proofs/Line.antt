@@ -21,12 +21,12 @@ line =
       size = 5;
       dust = λ i. eqb i 2 || eqb i 4;
       mapped = λ i. eqb i 1 || eqb i 3;
-      strongly = λ j i. false;
-      through = λ j i. false;
-      under = pairs 2 1 4 3;
+      emittedToStrong = λ j i. false;
+      strongToWeak = λ j i. false;
+      dustToWeak = pairs 2 1 4 3;
       transmits = pairs 2 4 4 2;
-      lights = pairs 0 2 0 2;
-      drives = λ j i. false;
+      emittedToDust = pairs 0 2 0 2;
+      strongToDust = λ j i. false;
     }
 
 emits : List ℕ

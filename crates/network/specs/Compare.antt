@@ -6,32 +6,44 @@ use Prim.Native.Nat.{ℕ, _+_, _≤_, max}
 use Rattle.columns.specs.Column.{Column, row}
 use Rattle.network.specs.Network.{Network, State}
 
--- a relation between three numbers
-abbrev pub Rel : Type 1
-Rel = ℕ → ℕ → ℕ → Type 0
+-- a relation between two numbers, and one between three
+abbrev pub Rel₂ : Type 1
+Rel₂ = ℕ → ℕ → Type 0
 
--- the third is the larger of the first two
-abbrev pub Larger : Rel
-Larger x y z = max x y ≡ z
+abbrev pub Rel₃ : Type 1
+Rel₃ = ℕ → ℕ → ℕ → Type 0
 
 -- the first is at most the second
-abbrev pub AtMost : Rel
-AtMost x y z = x ≤ y
+abbrev pub AtMost : Rel₂
+AtMost x y = x ≤ y
 
--- the first two differ by at most d
-abbrev pub Within : ℕ → Rel
-Within d x y z = (x ≤ y + d) × (y ≤ x + d)
+-- the two differ by at most d
+abbrev pub Within : ℕ → Rel₂
+Within d x y = (x ≤ y + d) × (y ≤ x + d)
 
--- between three columns, at every row
-pub record Rows (R : Rel) (x y z : Column) : Type 0 where
+-- the third is the larger of the first two
+abbrev pub Larger : Rel₃
+Larger x y z = max x y ≡ z
+
+-- between two columns, at every row; between two states, in every column
+pub record AtEveryRow₂ (R : Rel₂) (x y : Column) : Type 0 where
+  pub at : (i : ℕ) → R (row x i) (row y i)
+
+pub record States₂ (R : Rel₂) (x y : State) : Type 0 where
+  pub signal : AtEveryRow₂ R (x .signal) (y .signal)
+  pub onMap : AtEveryRow₂ R (x .onMap) (y .onMap)
+  pub weak : AtEveryRow₂ R (x .weak) (y .weak)
+  pub strong : AtEveryRow₂ R (x .strong) (y .strong)
+
+-- between three columns, at every row; between three states, in every column
+pub record AtEveryRow₃ (R : Rel₃) (x y z : Column) : Type 0 where
   pub at : (i : ℕ) → R (row x i) (row y i) (row z i)
 
--- between three states, in every column
-pub record States (R : Rel) (x y z : State) : Type 0 where
-  pub signal : Rows R (x .signal) (y .signal) (z .signal)
-  pub held : Rows R (x .held) (y .held) (z .held)
-  pub weak : Rows R (x .weak) (y .weak) (z .weak)
-  pub strong : Rows R (x .strong) (y .strong) (z .strong)
+pub record States₃ (R : Rel₃) (x y z : State) : Type 0 where
+  pub signal : AtEveryRow₃ R (x .signal) (y .signal) (z .signal)
+  pub onMap : AtEveryRow₃ R (x .onMap) (y .onMap) (z .onMap)
+  pub weak : AtEveryRow₃ R (x .weak) (y .weak) (z .weak)
+  pub strong : AtEveryRow₃ R (x .strong) (y .strong) (z .strong)
 
 -- every number of a state is at most m
 pub record Bounded (m : ℕ) (s : State) : Type 0 where
@@ -40,7 +52,7 @@ pub record Bounded (m : ℕ) (s : State) : Type 0 where
   pub strong : (i : ℕ) → row (s .strong) i ≤ m
 
 -- power reaches only rows of the map
-pub record OnMap (N : Network) : Type 0 where
-  pub strongly : (j i : ℕ) → N .mapped i ≡ false → N .strongly j i ≡ false
-  pub through : (j i : ℕ) → N .mapped i ≡ false → N .through j i ≡ false
-  pub under : (j i : ℕ) → N .mapped i ≡ false → N .under j i ≡ false
+pub record PowerOnMap (N : Network) : Type 0 where
+  pub emittedToStrong : (j i : ℕ) → N .mapped i ≡ false → N .emittedToStrong j i ≡ false
+  pub strongToWeak : (j i : ℕ) → N .mapped i ≡ false → N .strongToWeak j i ≡ false
+  pub dustToWeak : (j i : ℕ) → N .mapped i ≡ false → N .dustToWeak j i ≡ false

@@ -11,10 +11,10 @@ use Rattle.columns.specs.Column.{Column, row}
 use Rattle.columns.specs.Signal.{maxSignal}
 use Rattle.network.specs.Network.{Network, round, after, Answers, Rounds, Satisfies, Breaks}
 use Rattle.network.specs.Settled.{settling, roundsOf, settled}
-use Rattle.network.specs.Compare.{Rel, Larger, AtMost, Within, Rows, States, Bounded, OnMap}
+use Rattle.network.specs.Compare.{Rel₂, Rel₃, Larger, AtMost, Within, AtEveryRow₂, AtEveryRow₃, States₂, States₃, Bounded, PowerOnMap}
 use Rattle.network.specs.Laws.Kept.{Kept, after-kept}
 use Rattle.network.specs.Laws.Settle.{seventeen, stay, satisfied, satisfied-is, satisfied-or}
-use Rattle.network.specs.Laws.Seek.{none-yet}
+use Rattle.network.specs.Laws.FirstAnswering.{none-yet}
 use Rattle.network.specs.Laws.Join.{larger-kept, answers-larger}
 use Rattle.network.specs.Laws.Map.{strongOf-off, weakOf-off}
 
@@ -65,7 +65,7 @@ module _ (N : Network) (e : Column) where
   -- ---- power off the map, and the largest numbers
 
   -- Power is 0 off the map, where power reaches only rows of the map.
-  pub off-map : OnMap N → (i : ℕ) → N .mapped i ≡ false → (row (settled N e .weak) i ≡ 0) × (row (settled N e .strong) i ≡ 0)
+  pub off-map : PowerOnMap N → (i : ℕ) → N .mapped i ≡ false → (row (settled N e .weak) i ≡ 0) × (row (settled N e .strong) i ≡ 0)
   unfolding round
   off-map o i off = rw (← settled-again) (weakOf-off N o i off _ _, strongOf-off N o i off e)
 
@@ -73,20 +73,20 @@ module _ (N : Network) (e : Column) where
   pub settled-bounded : (m : ℕ) → maxSignal ≤ m → ((i : ℕ) → row e i ≤ m) → Bounded m (settled N e)
   settled-bounded m c h = rw settled-is (record { signal = all .signal .at; weak = all .weak .at; strong = all .strong .at })
     where
-      Below : Rel
+      Below : Rel₃
       Below x y z = x ≤ m
 
       kept : Kept Below Below
       kept = omega arith
 
-      all : States Below (after N e 17) (after N e 17) (after N e 17)
+      all : States₃ Below (after N e 17) (after N e 17) (after N e 17)
       all = after-kept N kept (record { at = h }) 17
 
 -- ---- the larger of two emitted columns
 
-module _ (N : Network) {a b c : Column} (j : Rows Larger a b c) where
+module _ (N : Network) {a b c : Column} (j : AtEveryRow₃ Larger a b c) where
   -- Where the third emitted level is the larger of the first two at every row, so are signal, weak and strong power, settled,
-  pub settled-larger : States Larger (settled N a) (settled N b) (settled N c)
+  pub settled-larger : States₃ Larger (settled N a) (settled N b) (settled N c)
   settled-larger = rw (settled-is N a, settled-is N b, settled-is N c) (after-kept N larger-kept j 17)
 
   -- and the rounds are at most the larger number of rounds.
@@ -100,17 +100,30 @@ module _ (N : Network) {a b c : Column} (j : Rows Larger a b c) where
 
 -- ---- how far a change carries
 
+-- after 17 rounds a relation between two numbers that every round keeps holds of what they leave
+module _ (N : Network) {R : Rel₂} (kept : Kept (λ x y z. R x y) (λ x y z. R x y)) {a b : Column} (h : AtEveryRow₂ R a b) where
+  settled-kept : States₂ R (settled N a) (settled N b)
+  settled-kept =
+      let k = after-kept N kept {c = b} (record { at = h .at }) 17 in
+      rw (settled-is N a, settled-is N b)
+      (record {
+        signal = record { at = k .signal .at };
+        onMap = record { at = k .onMap .at };
+        weak = record { at = k .weak .at };
+        strong = record { at = k .strong .at };
+      })
+
 module _ (N : Network) {a b : Column} where
   -- Emitted levels that differ by at most d at every row settle to numbers that differ by at most d.
-  pub settled-within : (d : ℕ) → Rows (Within d) a b b → States (Within d) (settled N a) (settled N b) (settled N b)
-  settled-within d h = rw (settled-is N a, settled-is N b) (after-kept N within-kept h 17)
+  pub settled-within : (d : ℕ) → AtEveryRow₂ (Within d) a b → States₂ (Within d) (settled N a) (settled N b)
+  settled-within d h = settled-kept N within-kept h
     where
-      within-kept : Kept (Within d) (Within d)
+      within-kept : Kept (λ x y z. Within d x y) (λ x y z. Within d x y)
       within-kept = omega arith
 
   -- Where no emitted level is lower, no settled number is.
-  pub settled-at-most : Rows AtMost a b b → States AtMost (settled N a) (settled N b) (settled N b)
-  settled-at-most h = rw (settled-is N a, settled-is N b) (after-kept N at-most-kept h 17)
+  pub settled-at-most : AtEveryRow₂ AtMost a b → States₂ AtMost (settled N a) (settled N b)
+  settled-at-most h = settled-kept N at-most-kept h
     where
-      at-most-kept : Kept AtMost AtMost
+      at-most-kept : Kept (λ x y z. AtMost x y) (λ x y z. AtMost x y)
       at-most-kept = omega arith

@@ -3,7 +3,7 @@ pub mod Top
 pub mod Kept
 pub mod States
 pub mod Settle
-pub mod Seek
+pub mod FirstAnswering
 pub mod Join
 pub mod Gather
 pub mod Map

@@ -14,35 +14,35 @@ pub record Network : Type 0 where
   -- "The map holds the rows that receive weak or strong"
   pub mapped : ℕ → Bool
   -- "Strong power: lever, button, plate reach their support, ..": an emitted level reaches as strong power
-  pub strongly : ℕ → ℕ → Bool
+  pub emittedToStrong : ℕ → ℕ → Bool
   -- "Weak power: a strongly powered block reaches its six neighbours": strong power reaches as weak power
-  pub through : ℕ → ℕ → Bool
+  pub strongToWeak : ℕ → ℕ → Bool
   -- "dust reaches the block below and along its arms": a dust's level reaches as weak power
-  pub under : ℕ → ℕ → Bool
+  pub dustToWeak : ℕ → ℕ → Bool
   -- "each transmitting dust": a dust's level, less one, reaches a dust
   pub transmits : ℕ → ℕ → Bool
   -- "Direct level is the emitted level of ..": an emitted level reaches a dust
-  pub lights : ℕ → ℕ → Bool
+  pub emittedToDust : ℕ → ℕ → Bool
   -- "otherwise strong power where the neighbour drives dust": strong power reaches a dust
-  pub drives : ℕ → ℕ → Bool
+  pub strongToDust : ℕ → ℕ → Bool
 
 -- What a round leaves: "signals and power map". The map is 1 at its rows, with the weak and the strong power there.
 pub record State : Type 0 where
   pub signal : Column
-  pub held : Column
+  pub onMap : Column
   pub weak : Column
   pub strong : Column
 
 module _ (N : Network) where
-  open Network N using (size, dust, mapped, strongly, through, under, transmits, lights, drives)
+  open Network N using (size, dust, mapped, emittedToStrong, strongToWeak, dustToWeak, transmits, emittedToDust, strongToDust)
 
   -- "Strong power: ..", of the emitted levels e
   unfoldable pub strongOf : Column → Column
-  strongOf e = tabulate size (arriving size strongly (row e))
+  strongOf e = tabulate size (arriving size emittedToStrong (row e))
 
   -- "Weak power: ..", of the strong power g and the signals s
   unfoldable pub weakOf : Column → Column → Column
-  weakOf g s = tabulate size (λ i. max (arriving size through (row g) i) (arriving size under (row s) i))
+  weakOf g s = tabulate size (λ i. max (arriving size strongToWeak (row g) i) (arriving size dustToWeak (row s) i))
 
   -- "A dust's level is the largest, capped at 15, of: each transmitting dust's level less one, not below 0; the direct level ..": at row i, of the
   -- emitted levels e, the strong power g and the signals s
@@ -50,15 +50,15 @@ module _ (N : Network) where
   level e g s i =
       min maxSignal
       (max (arriving size transmits (λ j. row s j - 1) i)
-      (max (arriving size lights (row e) i) (arriving size drives (row g) i)))
+      (max (arriving size emittedToDust (row e) i) (arriving size strongToDust (row g) i)))
 
   -- the signals where the dust has the levels x: "Every other row's signal is its emitted level"
   unfoldable pub signals : Column → (ℕ → ℕ) → Column
   signals e x = tabulate size (λ i. cond (dust i) (x i) (row e i))
 
   -- the rows of the map
-  unfoldable pub heldOf : Column
-  heldOf = tabulate size (λ i. cond (mapped i) 1 0)
+  unfoldable pub onMapOf : Column
+  onMapOf = tabulate size (λ i. cond (mapped i) 1 0)
 
   -- the rows of the empty map, and the power there
   unfoldable pub emptyMap : Column
@@ -66,14 +66,14 @@ module _ (N : Network) where
 
   -- "dust starts at 0, power as an empty map"
   unfoldable pub start : Column → State
-  start e = record { signal = signals e (λ i. 0); held = emptyMap; weak = emptyMap; strong = emptyMap }
+  start e = record { signal = signals e (λ i. 0); onMap = emptyMap; weak = emptyMap; strong = emptyMap }
 
   -- "Each round takes power from the last signals, then dust from the last signals and that new power"
   unfoldable pub round : Column → State → State
   round e t =
       record {
         signal = signals e (level e (strongOf e) (t .signal));
-        held = heldOf;
+        onMap = onMapOf;
         weak = weakOf (strongOf e) (t .signal);
         strong = strongOf e;
       }
@@ -104,7 +104,7 @@ module _ (N : Network) where
 
   -- the levels x break the definition at a dust: the rule gives another level there
   pub record Breaks (e : Column) (x : ℕ → ℕ) : Type 0 where
-    pub place : ℕ
-    pub inside : place < size
-    pub lies : dust place ≡ true
-    pub differs : ¬ (level e (strongOf e) (signals e x) place ≡ x place)
+    pub row : ℕ
+    pub inside : row < size
+    pub isDust : dust row ≡ true
+    pub differs : ¬ (level e (strongOf e) (signals e x) row ≡ x row)

@@ -3,7 +3,7 @@
 use Prim.Native.Nat.{ℕ}
 use Rattle.columns.specs.Column.{Column}
 use Rattle.network.specs.Network.{Network, State, after, Rounds}
-use Rattle.network.specs.Laws.Seek.{sought, sought-first}
+use Rattle.network.specs.Laws.FirstAnswering.{firstAnswering, firstAnswering-first}
 
 -- the first round that answers, and that it is
 pub record Settling (N : Network) (e : Column) : Type 0 where
@@ -12,7 +12,7 @@ pub record Settling (N : Network) (e : Column) : Type 0 where
 
 -- There is one, in every network and whatever is emitted. How it is found makes no difference: no other number is (`rounds-are` of `Demand`).
 unfoldable pub settling : (N : Network) (e : Column) → Settling N e
-settling N e = record { rounds = sought N e; first = sought-first N e }
+settling N e = record { rounds = firstAnswering N e; first = firstAnswering-first N e }
 
 -- "The number of rounds is part of the answer, the answering one counted"
 unfoldable pub roundsOf : Network → Column → ℕ

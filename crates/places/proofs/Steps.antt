@@ -13,7 +13,7 @@ use borrow.Author.Tests.{leb-true, lt-ltb, le-ltb}
 use Rattle.columns.proofs.Truth.{and-true, or-true}
 use Rattle.columns.proofs.Members.{all-member}
 use Rattle.places.specs.declared.Pos.{Pos}
-use Rattle.places.specs.Signed.{none, one, minusOne, signed32, clamp32, satAdd}
+use Rattle.places.specs.Signed.{zeroZ, one, minusOne, signed32, clamp32, satAdd}
 use Rattle.places.specs.Places.{North, East, South, West, horizontals, offset, opposite, step, beside, above, below, neighbours}
 
 -- ---- one coordinate
@@ -45,8 +45,8 @@ satAdd-exact : (a d : ℤ) → mag a ≤ 2000000 → mag d ≤ 2 → satAdd a d 
 unfolding satAdd
 satAdd-exact a d g h = clamp-exact (a +ℤ d) (omega (arith, mag-sum a d))
 
-satAdd-none : (a : ℤ) → mag a ≤ 2000000 → satAdd a none ≡ a
-satAdd-none a h = satAdd-exact a none h (omega arith) ∙ +ℤ-idr a
+satAdd-none : (a : ℤ) → mag a ≤ 2000000 → satAdd a zeroZ ≡ a
+satAdd-none a h = satAdd-exact a zeroZ h (omega arith) ∙ +ℤ-idr a
 
 mag-satAdd : (a d : ℤ) → mag a ≤ 2000000 → mag d ≤ 2 → mag (satAdd a d) ≤ mag a + 3
 mag-satAdd a d g h = rw (satAdd-exact a d g h) (omega (arith, mag-sum a d))
@@ -72,7 +72,7 @@ module _ (q : Pos) (r : InRange q) (dx dy dz : ℤ) (hx : mag dx ≤ 1) (hy : ma
       λ i. record { x = satAdd-back (q .x) dx (r .x) hx i; y = satAdd-back (q .y) dy (r .y) hy i; z = satAdd-back (q .z) dz (r .z) hz i }
 
   -- a level step and a step up or down are one step
-  pub offset-both : offset (offset q dx none dz) none dy none ≡ offset q dx dy dz
+  pub offset-both : offset (offset q dx zeroZ dz) zeroZ dy zeroZ ≡ offset q dx dy dz
   offset-both =
       λ i. record {
         x = satAdd-none (satAdd (q .x) dx) (omega (arith, mag-satAdd (q .x) dx (omega (arith, r .x)) (omega arith))) i;
@@ -136,13 +136,13 @@ module _ (q : Pos) (r : InRange q) (f : ℕ) (m : List·Memᴰ f horizontals) wh
 module _ (q : Pos) (r : InRange q) where
   beside-back : (f : ℕ) → List·Memᴰ f horizontals → q ≡ beside (beside q f) (opposite f)
   unfolding beside
-  beside-back f m = sym (sideways-back q r f m none (omega arith))
+  beside-back f m = sym (sideways-back q r f m zeroZ (omega arith))
 
   above-back : q ≡ above (below q)
-  above-back = sym (offset-back q r none minusOne none (omega arith) (omega arith) (omega arith))
+  above-back = sym (offset-back q r zeroZ minusOne zeroZ (omega arith) (omega arith) (omega arith))
 
   below-back : q ≡ below (above q)
-  below-back = sym (offset-back q r none one none (omega arith) (omega arith) (omega arith))
+  below-back = sym (offset-back q r zeroZ one zeroZ (omega arith) (omega arith) (omega arith))
 
   -- whoever is a neighbour of q has q for a neighbour
   pub neighbour-back : (n : Pos) → List·Memᴰ n (neighbours q) → List·Memᴰ q (neighbours n)
@@ -173,7 +173,7 @@ module _ (q : Pos) (r : InRange q) where
 -- the twelve positions from which dust can transmit to dust at q: `dust.offset(delta.x, dy, delta.z)`
 unfoldable pub aroundAlong : Pos → List ℕ → List Pos
 aroundAlong q [] = []
-aroundAlong q (f ∷ fs) = sideways q f minusOne ∷ sideways q f none ∷ sideways q f one ∷ aroundAlong q fs
+aroundAlong q (f ∷ fs) = sideways q f minusOne ∷ sideways q f zeroZ ∷ sideways q f one ∷ aroundAlong q fs
 
 abbrev pub around : Pos → List Pos
 around q = aroundAlong q horizontals
@@ -181,12 +181,12 @@ around q = aroundAlong q horizontals
 -- a step by dy is down, level or up
 pub data Step : ℤ → Type 0 where
   down : Step minusOne
-  level : Step none
+  level : Step zeroZ
   up : Step one
 
 pub is-around : (q : Pos) (fs : List ℕ) (f : ℕ) → List·Memᴰ f fs → {dy : ℤ} → Step dy → List·Memᴰ (sideways q f dy) (aroundAlong q fs)
 unfolding aroundAlong
 is-around q fs f (List·Memᴰ·head e) down = List·Memᴰ·head (ap (λ g. sideways q g minusOne) e)
-is-around q fs f (List·Memᴰ·head e) level = List·Memᴰ·tail (List·Memᴰ·head (ap (λ g. sideways q g none) e))
+is-around q fs f (List·Memᴰ·head e) level = List·Memᴰ·tail (List·Memᴰ·head (ap (λ g. sideways q g zeroZ) e))
 is-around q fs f (List·Memᴰ·head e) up = List·Memᴰ·tail (List·Memᴰ·tail (List·Memᴰ·head (ap (λ g. sideways q g one) e)))
 is-around q fs f (List·Memᴰ·tail {x = g} {xs = gs} m) s = List·Memᴰ·tail (List·Memᴰ·tail (List·Memᴰ·tail (is-around q gs f m s)))

@@ -6,7 +6,7 @@ use Prim.Native.Nat.{ℕ}
 use lib.Dec.{eqb, leb}
 use lib.IntN.{ℤ}
 use lib.Signed.{ltZ}
-use Rattle.places.specs.Signed.{minusOne, none, one, satAdd, eqZ}
+use Rattle.places.specs.Signed.{minusOne, zeroZ, one, satAdd, eqZ}
 use Rattle.places.specs.declared.Pos.{Pos}
 use Rattle.places.specs.declared.Place.{Place}
 use Rattle.places.specs.declared.Place.the-variants.{There, Nowhere}
@@ -58,9 +58,9 @@ opposite f =
 -- "North (0,0,-1), East (1,0,0), South (0,0,1), West (-1,0,0)"
 unfoldable pub step : ℕ → Pos
 step f =
-    cond (eqb f North) (cell none none minusOne)
-    (cond (eqb f East) (cell one none none)
-    (cond (eqb f South) (cell none none one) (cond (eqb f West) (cell minusOne none none) (cell none none none))))
+    cond (eqb f North) (cell zeroZ zeroZ minusOne)
+    (cond (eqb f East) (cell one zeroZ zeroZ)
+    (cond (eqb f South) (cell zeroZ zeroZ one) (cond (eqb f West) (cell minusOne zeroZ zeroZ) (cell zeroZ zeroZ zeroZ))))
 
 abbrev pub isHorizontal : ℕ → Bool
 isHorizontal f = leb North f && leb f West
@@ -71,13 +71,13 @@ horizontalOffset f = cond (isHorizontal f) (There (step f)) Nowhere
 
 -- the position beside q along a horizontal facing
 unfoldable pub beside : Pos → ℕ → Pos
-beside q f = offset q (step f .x) none (step f .z)
+beside q f = offset q (step f .x) zeroZ (step f .z)
 
 abbrev pub above : Pos → Pos
-above q = offset q none one none
+above q = offset q zeroZ one zeroZ
 
 abbrev pub below : Pos → Pos
-below q = offset q none minusOne none
+below q = offset q zeroZ minusOne zeroZ
 
 -- "its six neighbours", in the order of `ADJACENT`
 abbrev pub neighbours : Pos → List Pos

@@ -69,14 +69,10 @@ impl Pos {
     pub fn beside(self, facing: Facing) -> Self
         ensures { λ r. ⌜ r ≡ beside self (facing .code) ⌝ }
     {
-        let code = facing.code;
-        match code {
-            1 => self.offset(0, 0, -1),
-            2 => self.offset(1, 0, 0),
-            3 => self.offset(0, 0, 1),
-            4 => self.offset(-1, 0, 0),
-            _ => self.offset(0, 0, 0),
-        }
+        let Place::There(step) = facing.horizontal_offset() else {
+            return self.offset(0, 0, 0);
+        };
+        self.offset(step.x, 0, step.z)
     }
 
     pub fn above(self) -> Self

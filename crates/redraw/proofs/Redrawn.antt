@@ -8,7 +8,7 @@ use native.Mathlib.Omega.{arith}
 use lib.ListN.{length, getD, drop}
 use lib.Seq.{drop-length}
 use Rattle.columns.specs.Column.{Bytes}
-use Rattle.columns.proofs.Parts.{length-joined, joined-at, Written}
+use Rattle.columns.proofs.Parts.{length-concatRows, concatRows-at, Written}
 use Rattle.world.specs.Rows.{rows, byteOf}
 use Rattle.wire.proofs.Alike.{Alike}
 use Rattle.redraw.specs.Redraw.{redrawnRow, updateWireShapes}
@@ -20,7 +20,7 @@ module _ (p t : Bytes) (whole : length t ≡ rows t * 32) where
   all-drawn =
       let over : drop (rows t * 32) t ≡ [] = rw (← whole) (drop-length t) in
       record {
-        long = length-joined 32 (redrawnRow p t) (rows t) (λ k l. length-row p t k (omega arith));
+        long = length-concatRows 32 (redrawnRow p t) (rows t) (λ k l. length-row p t k (omega arith));
         is = rw (over, append-nil);
       }
 
@@ -33,4 +33,4 @@ module _ (p t : Bytes) (whole : length t ≡ rows t * 32) where
   -- any byte of a row
   pub redrawn-at : (i b : ℕ) → i < rows t → b < 32 → byteOf (updateWireShapes p t) i b ≡ getD (redrawnRow p t i) b 0
   unfolding updateWireShapes
-  redrawn-at i b h g = joined-at 32 (redrawnRow p t) (rows t) (λ k l. length-row p t k (omega arith)) i b h g
+  redrawn-at i b h g = concatRows-at 32 (redrawnRow p t) (rows t) (λ k l. length-row p t k (omega arith)) i b h g

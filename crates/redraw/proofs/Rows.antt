@@ -10,8 +10,8 @@ use native.Mathlib.Omega.{arith}
 use lib.ListN.{length, getD, drop, set, length-set, length-append, length-drop, List·getD-append}
 use lib.Seq.{getD-set-other, getD-drop, getD-append-add}
 use Rattle.blocks.specs.Kind.{isDust}
-use Rattle.columns.specs.Column.{Bytes, part, joined}
-use Rattle.columns.proofs.Parts.{length-part, part-at, joined-at, Written, written-lent}
+use Rattle.columns.specs.Column.{Bytes, part, concatRows}
+use Rattle.columns.proofs.Parts.{length-part, part-at, concatRows-at, Written, written-lent}
 use Rattle.places.specs.Places.{North, East, South, West}
 use Rattle.world.specs.Rows.{byteOf, posOf, kindOf}
 use Rattle.wire.proofs.Alike.{Alike, same-kind, same-place, same-infer}
@@ -70,18 +70,18 @@ module _ (p t : Bytes) (i : ℕ) (now : Bytes) (w : Written 32 (redrawnRow p t) 
       small : b < 32
       small = ⊎-elim (λ l. omega arith) (λ l. omega arith) o
 
-      done : k < i → getD (joined i (redrawnRow p t) ++ drop (i * 32) t) (k * 32 + b) 0 ≡ byteOf t k b
+      done : k < i → getD (concatRows i (redrawnRow p t) ++ drop (i * 32) t) (k * 32 + b) 0 ≡ byteOf t k b
       done l =
-          List·getD-append (joined i (redrawnRow p t)) (drop (i * 32) t) 0 (k * 32 + b) (rw (w .long) (omega (arith, small)))
-          ∙ joined-at 32 (redrawnRow p t) i (λ m g. length-row p t m (omega arith)) k b l small
+          List·getD-append (concatRows i (redrawnRow p t)) (drop (i * 32) t) 0 (k * 32 + b) (rw (w .long) (omega (arith, small)))
+          ∙ concatRows-at 32 (redrawnRow p t) i (λ m g. length-row p t m (omega arith)) k b l small
           ∙ row-keeps p t k b o
 
-      to-do : (k < i → ⊥) → getD (joined i (redrawnRow p t) ++ drop (i * 32) t) (k * 32 + b) 0 ≡ byteOf t k b
+      to-do : (k < i → ⊥) → getD (concatRows i (redrawnRow p t) ++ drop (i * 32) t) (k * 32 + b) 0 ≡ byteOf t k b
       to-do n =
-          let past : k * 32 + b ≡ length (joined i (redrawnRow p t)) + (k * 32 + b - i * 32) = rw (w .long) (omega arith) in
+          let past : k * 32 + b ≡ length (concatRows i (redrawnRow p t)) + (k * 32 + b - i * 32) = rw (w .long) (omega arith) in
           let back : i * 32 + (k * 32 + b - i * 32) ≡ k * 32 + b = omega arith in
-          ap (λ m. getD (joined i (redrawnRow p t) ++ drop (i * 32) t) m 0) past
-          ∙ getD-append-add (joined i (redrawnRow p t)) (drop (i * 32) t) (k * 32 + b - i * 32) 0
+          ap (λ m. getD (concatRows i (redrawnRow p t) ++ drop (i * 32) t) m 0) past
+          ∙ getD-append-add (concatRows i (redrawnRow p t)) (drop (i * 32) t) (k * 32 + b - i * 32) 0
           ∙ getD-drop (i * 32) t (k * 32 + b - i * 32) 0
           ∙ ap (λ m. getD t m 0) back
 

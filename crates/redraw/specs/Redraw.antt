@@ -7,7 +7,7 @@ use Prim.Native.Nat.{ℕ, _+_}
 use lib.Dec.{eqb}
 use lib.ListN.{set}
 use Rattle.blocks.specs.Kind.{isDust}
-use Rattle.columns.specs.Column.{Bytes, part, joined}
+use Rattle.columns.specs.Column.{Bytes, part, concatRows}
 use Rattle.places.specs.declared.Pos.{Pos}
 use Rattle.places.specs.Places.{North, East, South, West}
 use Rattle.world.specs.Rows.{rows, posOf, kindOf}
@@ -59,7 +59,7 @@ unfoldable pub redrawnRow : Bytes → Bytes → ℕ → Bytes
 redrawnRow p t i = cond (isDust (kindOf t i)) (drawn (part 32 t i) (withOpposite (entriesOf p t i))) (part 32 t i)
 
 unfoldable pub updateWireShapes : Bytes → Bytes → Bytes
-updateWireShapes p t = joined (rows t) (redrawnRow p t)
+updateWireShapes p t = concatRows (rows t) (redrawnRow p t)
 
 -- The whole of a call: what it answers, 0 or the refusal, and every byte of the table.
 pub record Redraws (p t t′ : Bytes) (r : ℕ) : Type 0 where

@@ -15,7 +15,7 @@ use lib.Signed.{mag}
 use borrow.Author.Tests.{leb-true}
 use Rattle.columns.specs.declared.Found.{Found}
 use Rattle.columns.specs.declared.Found.the-variants.{At, Nothing}
-use Rattle.columns.specs.Column.{Bytes, row, tabulate, joinedFrom, joined}
+use Rattle.columns.specs.Column.{Bytes, row, tabulate, concatRowsFrom, concatRows}
 use Rattle.columns.specs.First.{firstFrom}
 use Rattle.columns.proofs.Columns.{length-tabulate, row-tabulate}
 use Rattle.columns.proofs.First.{first-at}
@@ -62,17 +62,17 @@ unfolding lineOf
 line-few name n h = simp length-append (omega (arith, decimal-few n 3 h))
 
 module _ (w : ℕ) (f : ℕ → Bytes) where
-  from-few : (n i : ℕ) → ((k : ℕ) → k < n → length (f (i + k)) ≤ w) → length (joinedFrom i n f) ≤ n * w
-  unfolding joinedFrom
+  from-few : (n i : ℕ) → ((k : ℕ) → k < n → length (f (i + k)) ≤ w) → length (concatRowsFrom i n f) ≤ n * w
+  unfolding concatRowsFrom
   from-few zero i h = zero-le
   from-few (suc n) i h =
       let first : length (f i) ≤ w = rw (add-zero i) at (h 0 (omega arith)) in
-      let rest : length (joinedFrom (suc i) n f) ≤ n * w =
+      let rest : length (concatRowsFrom (suc i) n f) ≤ n * w =
       from-few n (suc i) (λ k l. let e : suc i + k ≡ i + suc k = omega arith in rw e (h (suc k) (omega arith))) in
       rw (length-append, suc-mul) (omega arith)
 
-  joined-few : (n : ℕ) → ((k : ℕ) → k < n → length (f k) ≤ w) → length (joined n f) ≤ n * w
-  joined-few n h = from-few n 0 (λ k l. rw (zero-add k) (h k l))
+  concatRows-few : (n : ℕ) → ((k : ℕ) → k < n → length (f k) ≤ w) → length (concatRows n f) ≤ n * w
+  concatRows-few n h = from-few n 0 (λ k l. rw (zero-add k) (h k l))
 
 -- ---- the text of an accepted table
 
@@ -105,7 +105,7 @@ module _ (t : Bytes) (bytes : (i : ℕ) → getD t i 0 ≤ 255) where
       let s = settled p t d in
       let table = accepted-input p t h .1 in
       let level = settled-bounded p t d 255 (omega arith) devices-byte in
-      let lines = joined-few 43 (rowOf t (s .signal) (s .weak) (s .strong)) (rows t)
+      let lines = concatRows-few 43 (rowOf t (s .signal) (s .weak) (s .strong)) (rows t)
       (λ i l. row-few (posOf t i) _ _ _ (in-range t table i l) (level .signal i) (level .weak i) (level .strong i)) in
       rw (length-append, length-append)
       (omega (arith, lines, table .few, line-few (ascii "blocks=") (rows t) (omega (arith, table .few)), line-few (ascii "rounds=") (roundsOf p t d) (omega (arith, rounds-range p t d))))

@@ -9,7 +9,7 @@ use Prim.Native.String.{String, [] as none, _∷_ as _then_}
 use lib.ListN.{length, take, drop}
 use lib.Dec.{leb, ltb}
 use lib.IntN.{ℤ, pos, negsuc}
-use Rattle.columns.specs.Column.{Bytes, Column, row, joined, atFront}
+use Rattle.columns.specs.Column.{Bytes, Column, row, concatRows, atFront}
 use Rattle.places.specs.declared.Pos.{Pos}
 use Rattle.world.specs.Rows.{rows, posOf}
 use Rattle.refusals.specs.declared.Checked.{Checked}
@@ -70,7 +70,7 @@ rowOf t signal weak strong i = rowText (posOf t i) (row signal i) (row weak i) (
 -- "It writes `blocks=`, `rounds=`, then per row .."
 unfoldable pub settledText : Bytes → ℕ → Column → Column → Column → Bytes
 settledText t rounds signal weak strong =
-    lineOf (ascii "blocks=") (rows t) ++ lineOf (ascii "rounds=") rounds ++ joined (rows t) (rowOf t signal weak strong)
+    lineOf (ascii "blocks=") (rows t) ++ lineOf (ascii "rounds=") rounds ++ concatRows (rows t) (rowOf t signal weak strong)
 
 -- "or `refusal=` number and `place=` row"
 unfoldable pub refusalText : ℕ → ℕ → Bytes

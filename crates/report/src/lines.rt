@@ -5,7 +5,7 @@ use world::row;
 ghost use mathlib.Core.Path.{_≡_};
 ghost use Prim.Native.Nat.{_+_, _≤_};
 ghost use lib.ListN.{length};
-ghost use Rattle.columns.specs.Column.{joined};
+ghost use Rattle.columns.specs.Column.{concatRows};
 ghost use Rattle.columns.specs.Column.{row as Column·row};
 ghost use Rattle.world.specs.Rows.{posOf};
 ghost use Rattle.world.specs.Rows.{rows as Rows·rows};
@@ -62,7 +62,7 @@ fn line_of(
 // The lines of every row, in order.
 fn rows(out: &mut [u8], at: usize, table: &[u8], signal: &[u8], weak: &[u8], strong: &[u8]) -> usize
     requires { ⌜ (at ≤ 64) × (Rows·rows (now table) ≤ 1024) × (room ≤ length (now out)) ⌝ }
-    ensures { λ r. ⌜ Puts (joined (Rows·rows (now (table .entry))) (rowOf (now (table .entry)) (now (signal .entry)) (now (weak .entry)) (now (strong .entry)))) at (now (out .entry)) (now (out .exit)) r ⌝ }
+    ensures { λ r. ⌜ Puts (concatRows (Rows·rows (now (table .entry))) (rowOf (now (table .entry)) (now (signal .entry)) (now (weak .entry)) (now (strong .entry)))) at (now (out .entry)) (now (out .exit)) r ⌝ }
 {
     let n = row::rows(table);
     let mut end = at;

@@ -12,18 +12,18 @@ use Rattle.columns.proofs.Columns.{length-tabulate, row-tabulate, same-rule}
 use Rattle.network.specs.Levels.{arriving}
 use Rattle.network.specs.Network.{Network, strongOf, weakOf, level, signals, emptyMap}
 use Rattle.network.specs.Settled.{roundsOf, settled}
-use Rattle.network.specs.Laws.Loop.{Going, Gone, repeats, going-start, going-stop, going-on, going-out}
+use Rattle.network.specs.Laws.Loop.{Unanswered, Answered, repeats, unanswered-start, answered-next, unanswered-next, unanswered-out}
 use Rattle.blocks.specs.Kind.{isDust}
 use Rattle.world.specs.Rows.{rows, kindOf}
 use Rattle.refusals.specs.declared.Checked.the-variants.{Accepted}
 use Rattle.refusals.specs.Check.{refuseUnless}
-use Rattle.electrical.specs.Edges.{through, lights, drives, networkOf}
+use Rattle.electrical.specs.Edges.{strongToWeak, emittedToDust, strongToDust, networkOf}
 use Rattle.electrical.specs.Answer.{Columns}
 use Rattle.electrical.proofs.Demand.{on-map}
 use Rattle.gather.proofs.Slotted.{arriving-feeders, arriving-unders}
 use Rattle.round.specs.Round.{slotted, nextSignal, nextWeak, firstSignal}
 use Rattle.rounds.specs.Prepared.{Prepared}
-use Rattle.rounds.specs.Outcome.{outcomeOf, writtenBy, Ran, Solves}
+use Rattle.rounds.specs.Outcome.{outcomeOf, writtenBy, RunsRounds, Solves}
 use Rattle.rounds.specs.declared.Outcome.{Outcome}
 use Rattle.rounds.specs.declared.Outcome.the-variants.{Settled, Unsettled}
 
@@ -46,13 +46,13 @@ module _ {p t : Bytes} {e base direct feeders unders : Column} {empty : Bool} (c
     signals-next =
         same-rule (rows t) _ _
         (λ i l. ap (λ x. cond (isDust (kindOf t i)) x (row e i))
-        (rw (c .feeders-is, c .direct-is, arriving-feeders p t (c .accepted) s sized i l, row-tabulate (rows t) (λ i. max (arriving (rows t) (lights p t) (row e) i) (arriving (rows t) (drives p t) (row g) i)) i l)))
+        (rw (c .feeders-is, c .direct-is, arriving-feeders p t (c .accepted) s sized i l, row-tabulate (rows t) (λ i. max (arriving (rows t) (emittedToDust p t) (row e) i) (arriving (rows t) (strongToDust p t) (row g) i)) i l)))
 
     weaks-next : tabulate (rows t) (nextWeak base unders s) ≡ weakOf (networkOf p t) g s
     unfolding nextWeak slotted weakOf networkOf
     weaks-next =
         same-rule (rows t) _ _
-        (λ i l. rw (c .unders-is, c .base-is, arriving-unders p t (c .accepted) s sized i l, row-tabulate (rows t) (arriving (rows t) (through p t) (row g)) i l))
+        (λ i l. rw (c .unders-is, c .base-is, arriving-unders p t (c .accepted) s sized i l, row-tabulate (rows t) (arriving (rows t) (strongToWeak p t) (row g)) i l))
 
   -- ---- as many entries as the table has rows
 
@@ -70,11 +70,11 @@ module _ {p t : Bytes} {e base direct feeders unders : Column} {empty : Bool} (c
 
   -- ---- the loop
 
-  pub starts : {s w : Column} → s ≡ tabulate (rows t) (firstSignal t e) → w ≡ emptyMap (networkOf p t) → Going (networkOf p t) e empty g 0 s w
-  starts p q = going-start (c .empty-is) refl (p ∙ signals-first _ _ _) q
+  pub starts : {s w : Column} → s ≡ tabulate (rows t) (firstSignal t e) → w ≡ emptyMap (networkOf p t) → Unanswered (networkOf p t) e empty g 0 s w
+  starts p q = unanswered-start (c .empty-is) refl (p ∙ signals-first _ _ _) q
 
   -- round k + 1
-  module _ {k n m : ℕ} {s w s′ w′ : Column} (h : Going (networkOf p t) e empty g k s w) (sized : length s ≡ rows t)
+  module _ {k n m : ℕ} {s w s′ w′ : Column} (h : Unanswered (networkOf p t) e empty g k s w) (sized : length s ≡ rows t)
       (made : s′ ≡ tabulate n (nextSignal t e direct feeders s)) (whole : n ≡ rows t) (powered : w′ ≡ tabulate m (nextWeak base unders s)) (full : m ≡ rows t) where
     turned : s′ ≡ signals (networkOf p t) e (level (networkOf p t) e g s)
     turned = made ∙ rw whole (signals-next s sized)
@@ -83,18 +83,18 @@ module _ {p t : Bytes} {e base direct feeders unders : Column} {empty : Bool} (c
     weakened = powered ∙ rw full (weaks-next s sized)
 
     module _ {b : Bool} (answered : b ≡ repeats empty k s w s′ w′) where
-      pub stops : b ≡ true → Gone (networkOf p t) e g (k + 1) s′ w′
-      stops b-is = going-stop (on-map p t) h turned weakened (sym answered ∙ b-is)
+      pub stops : b ≡ true → Answered (networkOf p t) e g (k + 1) s′ w′
+      stops b-is = answered-next (on-map p t) h turned weakened (sym answered ∙ b-is)
 
-      pub goes-on : b ≡ false → Going (networkOf p t) e empty g (k + 1) s′ w′
-      goes-on b-is = going-on (on-map p t) h turned weakened (sym answered ∙ b-is)
+      pub goes-on : b ≡ false → Unanswered (networkOf p t) e empty g (k + 1) s′ w′
+      goes-on b-is = unanswered-next (on-map p t) h turned weakened (sym answered ∙ b-is)
 
 -- ---- the loop's invariant
 
 -- after some rounds, with the rest of the limit left
 pub record Turning (p t : Bytes) (e : Column) (empty : Bool) (limit : ℕ) (s0 w0 s1 w1 : Column) (rounds left : ℕ) : Type 0 where
   pub count : rounds + left ≡ limit
-  pub going : Going (networkOf p t) e empty (strongOf (networkOf p t) e) rounds s0 w0
+  pub unanswered : Unanswered (networkOf p t) e empty (strongOf (networkOf p t) e) rounds s0 w0
   pub s0-rows : length s0 ≡ rows t
   pub w0-rows : length w0 ≡ rows t
   pub s1-rows : length s1 ≡ rows t
@@ -103,17 +103,17 @@ pub record Turning (p t : Bytes) (e : Column) (empty : Bool) (limit : ℕ) (s0 w
 -- ---- the end of the loop
 
 module _ {N : Network} {e : Column} {limit : ℕ} where
-  pub ran-settled : {k : ℕ} {s w : Column} → Gone N e (strongOf N e) k s w → k ≤ limit → Ran N e limit s w (Settled k)
+  pub ran-settled : {k : ℕ} {s w : Column} → Answered N e (strongOf N e) k s w → k ≤ limit → RunsRounds N e limit s w (Settled k)
   unfolding outcomeOf
   ran-settled {k} h l = record { answer = rw (h .rounds, le-leb k limit l); levels = λ _. rw (h .rounds) h }
 
-  pub ran-unsettled : {empty : Bool} {g : Column} {k : ℕ} {s₀ w₀ s w : Column} → Going N e empty g k s₀ w₀ → limit ≤ k → Ran N e limit s w Unsettled
+  pub ran-unsettled : {empty : Bool} {g : Column} {k : ℕ} {s₀ w₀ s w : Column} → Unanswered N e empty g k s₀ w₀ → limit ≤ k → RunsRounds N e limit s w Unsettled
   unfolding outcomeOf
   ran-unsettled h l =
-      record { answer = rw (lt-leb (roundsOf N e) limit (omega (arith, going-out h))); levels = λ r. absurd (omega (arith, going-out h)) }
+      record { answer = rw (lt-leb (roundsOf N e) limit (omega (arith, unanswered-out h))); levels = λ r. absurd (omega (arith, unanswered-out h)) }
 
   -- the columns written by how the loop ended
-  module _ {s w g signal weak strong signal′ weak′ strong′ : Column} {r : Outcome} (h : Ran N e limit s w r) (g-is : g ≡ strongOf N e)
+  module _ {s w g signal weak strong signal′ weak′ strong′ : Column} {r : Outcome} (h : RunsRounds N e limit s w r) (g-is : g ≡ strongOf N e)
       (a : signal′ ≡ writtenBy r signal s) (b : weak′ ≡ writtenBy r weak w) (c : strong′ ≡ writtenBy r strong g) where
     pub solves : Solves (roundsOf N e) (settled N e) limit signal weak strong signal′ weak′ strong′ r
     unfolding outcomeOf

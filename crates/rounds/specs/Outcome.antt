@@ -7,7 +7,7 @@ use lib.Dec.{leb}
 use Rattle.columns.specs.Column.{Column}
 use Rattle.network.specs.Network.{Network, State, strongOf}
 use Rattle.network.specs.Settled as Network
-use Rattle.network.specs.Laws.Loop.{Gone}
+use Rattle.network.specs.Laws.Loop.{Answered}
 use Rattle.refusals.specs.declared.Checked.{Checked}
 use Rattle.refusals.specs.declared.Checked.the-variants.{Accepted}
 use Rattle.refusals.specs.Check.{refuseUnless}
@@ -29,9 +29,9 @@ writtenBy (Settled rounds) old new = new
 writtenBy Unsettled old new = old
 
 -- The loop of rounds: how it ends, and that the signals s and the weak power w that it leaves are settled where the limit is enough.
-pub record Ran (N : Network) (e : Column) (limit : ℕ) (s w : Column) (r : Outcome) : Type 0 where
+pub record RunsRounds (N : Network) (e : Column) (limit : ℕ) (s w : Column) (r : Outcome) : Type 0 where
   pub answer : r ≡ outcomeOf (Network.roundsOf N e) limit
-  pub levels : Network.roundsOf N e ≤ limit → Gone N e (strongOf N e) (Network.roundsOf N e) s w
+  pub levels : Network.roundsOf N e ≤ limit → Answered N e (strongOf N e) (Network.roundsOf N e) s w
 
 -- The whole of it, of what settles to s in so many rounds: how it ends, and the three columns, settled or as they were.
 pub record Solves (rounds : ℕ) (s : State) (limit : ℕ) (signal weak strong signal′ weak′ strong′ : Column) (r : Outcome) : Type 0 where

@@ -10,7 +10,7 @@ use Rattle.network.specs.Network.{strongOf, emptyMap}
 use Rattle.network.specs.Laws.Loop.{unmapped}
 use Rattle.world.specs.Rows.{rows}
 use Rattle.refusals.specs.Accepted.{Table}
-use Rattle.electrical.specs.Edges.{through, lights, drives, networkOf}
+use Rattle.electrical.specs.Edges.{strongToWeak, emittedToDust, strongToDust, networkOf}
 use Rattle.gather.specs.Slots as Slots
 
 -- Of the accepted table t with the emitted levels, under the profile p: the weak power from strong power, the direct levels, the slots of the dust that
@@ -18,11 +18,11 @@ use Rattle.gather.specs.Slots as Slots
 pub record Prepared (p t : Bytes) (emitted base direct feeders unders : Column) (empty : Bool) : Type 0 where
   pub accepted : Table t
   pub emitted-rows : length emitted ≡ rows t
-  pub base-is : base ≡ tabulate (rows t) (arriving (rows t) (through p t) (row (strongOf (networkOf p t) emitted)))
+  pub base-is : base ≡ tabulate (rows t) (arriving (rows t) (strongToWeak p t) (row (strongOf (networkOf p t) emitted)))
   pub direct-is :
       direct
       ≡ tabulate (rows t)
-      (λ i. max (arriving (rows t) (lights p t) (row emitted) i) (arriving (rows t) (drives p t) (row (strongOf (networkOf p t) emitted)) i))
+      (λ i. max (arriving (rows t) (emittedToDust p t) (row emitted) i) (arriving (rows t) (strongToDust p t) (row (strongOf (networkOf p t) emitted)) i))
   pub feeders-is : feeders ≡ Slots.feeders p t (rows t * 12)
   pub unders-is : unders ≡ Slots.unders p t (rows t * 5)
   pub empty-is : empty ≡ unmapped (networkOf p t)

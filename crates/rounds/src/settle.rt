@@ -14,7 +14,7 @@ ghost use Rattle.world.specs.Rows.{rows};
 ghost use Rattle.electrical.specs.Edges.{networkOf};
 ghost use Rattle.round.specs.Round.{firstSignal};
 ghost use Rattle.rounds.specs.Prepared.{Prepared, Buffers, Outputs};
-ghost use Rattle.rounds.specs.Outcome.{writtenBy, Ran, Solves};
+ghost use Rattle.rounds.specs.Outcome.{writtenBy, RunsRounds, Solves};
 
 // Rounds until one answers, while the limit lasts: each from the last one's signals, which stand in s0, and its weak power in w0.
 // The answering round's stand in s1 and w1.
@@ -36,7 +36,7 @@ fn run(
     requires { ⌜ Prepared (now profile) (now table) (now emitted) (now base) (now direct) (now feeders) (now unders) empty ⌝ }
     requires { ⌜ (now s0 ≡ tabulate (rows (now table)) (firstSignal (now table) (now emitted))) × (now w0 ≡ emptyMap (networkOf (now profile) (now table))) ⌝ }
     requires { ⌜ (length (now s1) ≡ rows (now table)) × (length (now w1) ≡ rows (now table)) ⌝ }
-    ensures { λ r. ⌜ Ran (networkOf (now (profile .entry)) (now (table .entry))) (now (emitted .entry)) limit (now (s1 .exit)) (now (w1 .exit)) r ⌝ }
+    ensures { λ r. ⌜ RunsRounds (networkOf (now (profile .entry)) (now (table .entry))) (now (emitted .entry)) limit (now (s1 .exit)) (now (w1 .exit)) r ⌝ }
 {
     let mut rounds: u32 = 0;
     let mut left = limit;

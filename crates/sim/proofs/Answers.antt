@@ -12,7 +12,7 @@ use Rattle.refusals.specs.Check.{answerOf}
 use Rattle.electrical.specs.Answer.{roundsOf, settled, Columns}
 use Rattle.updates.specs.State.{devicesOf, freshDevices, freshState}
 use Rattle.updates.specs.Tick.{ticks}
-use Rattle.sim.specs.Running.{Stands, Settled}
+use Rattle.sim.specs.Running.{HoldsSettled, Settled}
 use Rattle.updates.specs.Calls.{checkFresh, checkStep, checkTick, switched, Fresh, Ticks, Switches}
 
 -- ---- the columns that a call leaves on which c falls
@@ -20,12 +20,12 @@ use Rattle.updates.specs.Calls.{checkFresh, checkStep, checkTick, switched, Fre
 kept : {c : Checked} {n i : ℕ} {s : State} {signal weak strong : Column} → c ≡ Refused n i → Columns c s signal weak strong signal weak strong
 kept e = rw e (record { signals = refl; weaks = refl; strongs = refl })
 
-filled : {c : Checked} {p t : Bytes} {d signal weak strong signal′ weak′ strong′ : Column} → c ≡ Accepted → Stands p t d signal′ weak′ strong′
+filled : {c : Checked} {p t : Bytes} {d signal weak strong signal′ weak′ strong′ : Column} → c ≡ Accepted → HoldsSettled p t d signal′ weak′ strong′
     → Columns c (settled p t d) signal weak strong signal′ weak′ strong′
 filled e s = rw e (record { signals = s .signals; weaks = s .weaks; strongs = s .strongs })
 
 module _ {p t st st′ : Bytes} {signal weak strong signal′ weak′ strong′ : Column} {r : ℕ} where
-  pub fresh-done : checkFresh p t (length st) (length signal) (length weak) (length strong) ≡ Accepted → st′ ≡ freshState p t → r ≡ roundsOf p t (freshDevices t) → Stands p t (freshDevices t) signal′ weak′ strong′
+  pub fresh-done : checkFresh p t (length st) (length signal) (length weak) (length strong) ≡ Accepted → st′ ≡ freshState p t → r ≡ roundsOf p t (freshDevices t) → HoldsSettled p t (freshDevices t) signal′ weak′ strong′
       → Fresh p t st st′ signal weak strong signal′ weak′ strong′ r
   fresh-done e f k s = record { answer = rw e k; state = rw e f; columns = filled e s }
 
@@ -37,7 +37,7 @@ module _ {p t st : Bytes} {signal weak strong : Column} {r n i : ℕ} {x : Check
 module _ {p t st st′ : Bytes} {now asked : ℕ} {d signal weak strong signal′ weak′ strong′ : Column} {r : ℕ} where
   pub ticks-done : checkTick p t st now asked (length signal) (length weak) (length strong) ≡ Accepted → st′ ≡ ticks asked p t st
       → r ≡ roundsOf p t (devicesOf t st′) → Settled p t st′ d signal′ weak′ strong′ → Ticks p t st st′ now asked signal weak strong signal′ weak′ strong′ r
-  ticks-done e f k s = record { answer = rw e (rw f at k); state = rw e f; columns = filled e (rw f at (s .stands)) }
+  ticks-done e f k s = record { answer = rw e (rw f at k); state = rw e f; columns = filled e (rw f at (s .holds)) }
 
 module _ {p t st : Bytes} {now asked : ℕ} {signal weak strong : Column} {r n i : ℕ} {x : Checked} where
   pub ticks-refused : x ≡ checkTick p t st now asked (length signal) (length weak) (length strong) → x ≡ Refused n i → r ≡ answerOf x 0
@@ -46,7 +46,7 @@ module _ {p t st : Bytes} {now asked : ℕ} {signal weak strong : Column} {r n i
 
 module _ {p t u st : Bytes} {q : Pos} {power : ℕ} {signal weak strong signal′ weak′ strong′ : Column} {r : ℕ} where
   pub switch-done : checkStep p t st (length signal) (length weak) (length strong) ≡ Accepted → u ≡ switched t q power
-      → r ≡ roundsOf p (switched t q power) (devicesOf t st) → Stands p (switched t q power) (devicesOf t st) signal′ weak′ strong′
+      → r ≡ roundsOf p (switched t q power) (devicesOf t st) → HoldsSettled p (switched t q power) (devicesOf t st) signal′ weak′ strong′
       → Switches p t u st q power signal weak strong signal′ weak′ strong′ r
   switch-done e f k s = record { answer = rw e k; table = rw e f; columns = filled e s }
 

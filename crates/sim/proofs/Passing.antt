@@ -19,7 +19,7 @@ use Rattle.rounds.specs.Prepared.{Outputs}
 use Rattle.rounds.proofs.Lending.{outputs, length-zeros, fits}
 use Rattle.wire.proofs.Alike.{same-rows}
 use Rattle.updates.specs.State.{devicesOf, IsValidState, checkState}
-use Rattle.sim.specs.Running.{Room, Ready, Stands}
+use Rattle.sim.specs.Running.{ColumnLengths, Ready, HoldsSettled}
 use Rattle.updates.specs.Calls.{checkFresh, checkStep, checkTick, switched}
 use Rattle.sim.proofs.Valid.{valid-state, devices-of-valid}
 use Rattle.sim.proofs.Switching.{switched-alike, switched-accepted, switched-devices, switched-valid}
@@ -64,8 +64,8 @@ module _ (p t : Bytes) {n : ℕ} (a : IsAccepted p t) (e : n ≡ rows t) where
   pub front : n ≡ length (take {A = ℕ} n (replicate 1024 0))
   front = sym (length-zeros n 1024 few)
 
-  pub device-room : {signal weak strong : Column} → Outputs t signal weak strong → Room t (take n (replicate 1024 0)) signal weak strong
-  device-room o =
+  pub device-lengths : {signal weak strong : Column} → Outputs t signal weak strong → ColumnLengths t (take n (replicate 1024 0)) signal weak strong
+  device-lengths o =
       record {
         device-rows = sym front ∙ e;
         signal-rows = o .signal-rows;
@@ -112,6 +112,6 @@ module _ {p t u st : Bytes} {q : Pos} {power : ℕ} {signal weak strong : Column
   pub switch-rounds : {r : ℕ} → r ≡ roundsOf p u (devicesOf u st) → r ≡ roundsOf p (switched t q power) (devicesOf t st)
   switch-rounds k = rw (← e, ← switched-same) k
 
-  pub switch-stands : {signal′ weak′ strong′ : Column} → Stands p u (devicesOf u st) signal′ weak′ strong′
-      → Stands p (switched t q power) (devicesOf t st) signal′ weak′ strong′
-  switch-stands s = rw (← e, ← switched-same) s
+  pub switch-holds : {signal′ weak′ strong′ : Column} → HoldsSettled p u (devicesOf u st) signal′ weak′ strong′
+      → HoldsSettled p (switched t q power) (devicesOf t st) signal′ weak′ strong′
+  switch-holds s = rw (← e, ← switched-same) s

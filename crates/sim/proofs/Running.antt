@@ -16,14 +16,14 @@ use Rattle.rounds.specs.Outcome.{outcomeOf, Solves}
 use Rattle.states.specs.Fresh.{numbersOf, powersOf}
 use Rattle.updates.specs.State.{devicesOf, IsValidState}
 use Rattle.updates.specs.Tick.{withDevices, withLamps, settledOf, setDevices, setLamps, tick, ticks}
-use Rattle.sim.specs.Running.{Room, Ready, Stands, Settled}
+use Rattle.sim.specs.Running.{ColumnLengths, Ready, HoldsSettled, Settled}
 use Rattle.sim.proofs.Many.{ticks-none, ticks-next}
 use Rattle.sim.proofs.States.{devices-read, lamps-read, length-ticks, tick-devices}
 use Rattle.sim.proofs.Valid.{valid-state, devices-of-valid, set-devices-valid, ticks-valid}
 
 -- ---- settling
 
-pub call-accepted : (p t : Bytes) (d signal weak strong : Column) → IsAccepted p t → IsValid t d → Room t d signal weak strong
+pub call-accepted : (p t : Bytes) (d signal weak strong : Column) → IsAccepted p t → IsValid t d → ColumnLengths t d signal weak strong
     → checkCall p t d (length signal) (length weak) (length strong) ≡ Accepted
 unfolding checkCall
 call-accepted p t d signal weak strong a v r =
@@ -32,7 +32,7 @@ call-accepted p t d signal weak strong a v r =
 -- "so settle with a limit from 17 up never calls it unsettled"
 pub solved : (p t : Bytes) (d signal weak strong signal′ weak′ strong′ : Column) {r : Outcome}
     → Solves (roundsOf p t d) (settled p t d) 17 signal weak strong signal′ weak′ strong′ r
-    → (r ≡ Outcome.Settled (roundsOf p t d)) × Stands p t d signal′ weak′ strong′
+    → (r ≡ Outcome.Settled (roundsOf p t d)) × HoldsSettled p t d signal′ weak′ strong′
 unfolding outcomeOf
 solved p t d signal weak strong signal′ weak′ strong′ s =
     let e = le-leb (roundsOf p t d) 17 (rounds-range p t d .1) in (
@@ -43,9 +43,9 @@ solved p t d signal weak strong signal′ weak′ strong′ s =
 -- ---- room stays
 
 module _ {t : Bytes} {d signal weak strong d′ signal′ weak′ strong′ : Column} where
-  pub room-kept : Room t d signal weak strong → length d′ ≡ length d → length signal′ ≡ length signal → length weak′ ≡ length weak
-      → length strong′ ≡ length strong → Room t d′ signal′ weak′ strong′
-  room-kept r a b c e =
+  pub lengths-kept : ColumnLengths t d signal weak strong → length d′ ≡ length d → length signal′ ≡ length signal → length weak′ ≡ length weak
+      → length strong′ ≡ length strong → ColumnLengths t d′ signal′ weak′ strong′
+  lengths-kept r a b c e =
       record {
         device-rows = a ∙ r .device-rows;
         signal-rows = b ∙ r .signal-rows;
@@ -63,8 +63,8 @@ pub ready-next : (p t st st₁ : Bytes) → st₁ ≡ setDevices p t st → IsAc
 ready-next p t st st₁ e a v = rw e (ready p t (setDevices p t st) a (set-devices-valid p t st v))
 
 -- the columns are settled by the devices of the state
-pub settles : {p t st : Bytes} {d signal weak strong : Column} → d ≡ devicesOf t st → Stands p t d signal weak strong → Settled p t st d signal weak strong
-settles e s = record { devices = e; stands = rw e at s }
+pub settles : {p t st : Bytes} {d signal weak strong : Column} → d ≡ devicesOf t st → HoldsSettled p t d signal weak strong → Settled p t st d signal weak strong
+settles e s = record { devices = e; holds = rw e at s }
 
 -- ---- a tick
 
@@ -73,13 +73,13 @@ module _ {p t st : Bytes} {d signal weak strong : Column} (h : Settled p t st d 
   pub next-devices : withDevices p t d (numbersOf signal weak strong) st ≡ setDevices p t st
   unfolding setDevices settledOf
   next-devices =
-      rw (h .devices, h .stands .signals, h .stands .weaks, h .stands .strongs)
+      rw (h .devices, h .holds .signals, h .holds .weaks, h .holds .strongs)
       (devices-read p t (devicesOf t st) (settled p t (devicesOf t st)) st)
 
   -- the lamps, from the new ones
   pub next-lamps : withLamps t (powersOf weak strong) st ≡ setLamps p t st
   unfolding setLamps settledOf
-  next-lamps = rw (h .stands .weaks, h .stands .strongs) (lamps-read p t d (settled p t (devicesOf t st)) st)
+  next-lamps = rw (h .holds .weaks, h .holds .strongs) (lamps-read p t d (settled p t (devicesOf t st)) st)
 
 -- what a tick leaves: the state, the rounds and the columns
 pub record Ticked (p t st st′ : Bytes) (d signal weak strong : Column) (r : ℕ) : Type 0 where
@@ -99,28 +99,28 @@ module _ {p t st st₁ st₂ : Bytes} {d signal weak strong : Column} {r : ℕ} 
       record {
         state = next;
         rounds = k ∙ ap (roundsOf p t) (sym same);
-        columns = record { devices = s .devices ∙ sym same; stands = rw same (s .stands) };
+        columns = record { devices = s .devices ∙ sym same; holds = rw same (s .holds) };
       }
 
 -- ---- many ticks: what n of them leave
 
-pub record Going (n : ℕ) (p t st st′ : Bytes) (d signal weak strong : Column) (r : ℕ) : Type 0 where
+pub record Ticking (n : ℕ) (p t st st′ : Bytes) (d signal weak strong : Column) (r : ℕ) : Type 0 where
   pub state : st′ ≡ ticks n p t st
   pub rounds : r ≡ roundsOf p t (devicesOf t st′)
   pub columns : Settled p t st′ d signal weak strong
 
-pub going-none : {p t st : Bytes} {d signal weak strong : Column} {r : ℕ} → r ≡ roundsOf p t (devicesOf t st) → Settled p t st d signal weak strong
-    → Going 0 p t st st d signal weak strong r
-going-none {p} {t} {st} k s = record { state = sym (ticks-none p t st); rounds = k; columns = s }
+pub ticking-none : {p t st : Bytes} {d signal weak strong : Column} {r : ℕ} → r ≡ roundsOf p t (devicesOf t st) → Settled p t st d signal weak strong
+    → Ticking 0 p t st st d signal weak strong r
+ticking-none {p} {t} {st} k s = record { state = sym (ticks-none p t st); rounds = k; columns = s }
 
-module _ {n : ℕ} {p t st st′ : Bytes} {d signal weak strong : Column} {r : ℕ} (g : Going n p t st st′ d signal weak strong r) where
-  pub going-valid : IsValidState t st → IsValidState t st′
-  going-valid v = rw (g .state) (ticks-valid n p t st v)
+module _ {n : ℕ} {p t st st′ : Bytes} {d signal weak strong : Column} {r : ℕ} (g : Ticking n p t st st′ d signal weak strong r) where
+  pub ticking-valid : IsValidState t st → IsValidState t st′
+  ticking-valid v = rw (g .state) (ticks-valid n p t st v)
 
-  pub going-long : IsValidState t st → length st′ ≡ length st
-  going-long v = let s = valid-state t st v .sized in ap length (g .state) ∙ length-ticks p t n st s ∙ sym s
+  pub ticking-long : IsValidState t st → length st′ ≡ length st
+  ticking-long v = let s = valid-state t st v .sized in ap length (g .state) ∙ length-ticks p t n st s ∙ sym s
 
-  pub going-more : {st″ : Bytes} {d′ signal′ weak′ strong′ : Column} {r′ : ℕ} → Ticked p t st′ st″ d′ signal′ weak′ strong′ r′
-      → Going (n + 1) p t st st″ d′ signal′ weak′ strong′ r′
-  going-more k =
+  pub ticking-more : {st″ : Bytes} {d′ signal′ weak′ strong′ : Column} {r′ : ℕ} → Ticked p t st′ st″ d′ signal′ weak′ strong′ r′
+      → Ticking (n + 1) p t st st″ d′ signal′ weak′ strong′ r′
+  ticking-more k =
       record { state = k .state ∙ ap (tick p t) (g .state) ∙ sym (ticks-next p t n st); rounds = k .rounds; columns = k .columns }

@@ -5,9 +5,9 @@ use Prim.Native.Nat.{ℕ, zero, suc, _*_, _≤_, _<_}
 use native.Mathlib.Nat.{le-refl, le-trans}
 use native.Mathlib.Omega.{arith}
 use lib.ListN.{length}
-use Rattle.columns.specs.Column.{Bytes, Column, joined}
+use Rattle.columns.specs.Column.{Bytes, Column, concatRows}
 use Rattle.columns.proofs.Columns.{same-rule}
-use Rattle.columns.proofs.Parts.{length-part, length-joined, part-joined}
+use Rattle.columns.proofs.Parts.{length-part, length-concatRows, part-concatRows}
 use Rattle.network.specs.Network.{State}
 use Rattle.world.specs.Rows.{rows}
 use Rattle.electrical.specs.Answer.{settled}
@@ -30,22 +30,22 @@ module _ (t st : Bytes) (long : length st ≡ rows t * 16) where
     -- the rows and the lengths of a state whose devices, or lamps, are set: "sets all devices from the old settled state"
     pub devices-row : (i : ℕ) → i < rows t → sixteen (withDevices p t d s st) i ≡ deviceRow p t d s i (sixteen st i)
     unfolding withDevices
-    devices-row = part-joined 16 _ (rows t) (λ i h. length-device p t _ s i (sixteen st i) ∙ row-length i h)
+    devices-row = part-concatRows 16 _ (rows t) (λ i h. length-device p t _ s i (sixteen st i) ∙ row-length i h)
 
     pub length-devices : length (withDevices p t d s st) ≡ rows t * 16
     unfolding withDevices
-    length-devices = length-joined 16 _ (rows t) (λ i h. length-device p t _ s i (sixteen st i) ∙ row-length i h)
+    length-devices = length-concatRows 16 _ (rows t) (λ i h. length-device p t _ s i (sixteen st i) ∙ row-length i h)
 
     lamp-lengths : (i : ℕ) → i < rows t → length (lampRow t s i (sixteen st i)) ≡ 16
     lamp-lengths i h = length-lamp p t d s i (sixteen st i) ∙ row-length i h
 
     pub lamps-row : (i : ℕ) → i < rows t → sixteen (withLamps t s st) i ≡ lampRow t s i (sixteen st i)
     unfolding withLamps
-    lamps-row = part-joined 16 _ (rows t) lamp-lengths
+    lamps-row = part-concatRows 16 _ (rows t) lamp-lengths
 
     pub length-lamps : length (withLamps t s st) ≡ rows t * 16
     unfolding withLamps
-    length-lamps = length-joined 16 _ (rows t) lamp-lengths
+    length-lamps = length-concatRows 16 _ (rows t) lamp-lengths
 
     -- the lamps leave the devices alone
     pub lamps-devices : devicesOf t (withLamps t s st) ≡ devicesOf t st
@@ -59,15 +59,15 @@ module _ (t st : Bytes) (long : length st ≡ rows t * 16) where
 module _ (p t : Bytes) (d : Column) (s : State) (st : Bytes) where
   pub devices-read : withDevices p t d (numbersOf (s .signal) (s .weak) (s .strong)) st ≡ withDevices p t d s st
   unfolding withDevices
-  devices-read = λ x. joined (rows t) (λ i. device-reads p t d s i (sixteen st i) x)
+  devices-read = λ x. concatRows (rows t) (λ i. device-reads p t d s i (sixteen st i) x)
 
   pub lamps-read : withLamps t (powersOf (s .weak) (s .strong)) st ≡ withLamps t s st
   unfolding withLamps
-  lamps-read = λ x. joined (rows t) (λ i. lamp-reads p t d s i (sixteen st i) x)
+  lamps-read = λ x. concatRows (rows t) (λ i. lamp-reads p t d s i (sixteen st i) x)
 
-pub fresh-read : (p t : Bytes) → (let s = settled p t (freshDevices t) in joined (rows t) (freshRow t (powersOf (s .weak) (s .strong)))) ≡ freshState p t
+pub fresh-read : (p t : Bytes) → (let s = settled p t (freshDevices t) in concatRows (rows t) (freshRow t (powersOf (s .weak) (s .strong)))) ≡ freshState p t
 unfolding freshState
-fresh-read p t = let s = settled p t (freshDevices t) in λ x. joined (rows t) (λ i. fresh-reads t s i x)
+fresh-read p t = let s = settled p t (freshDevices t) in λ x. concatRows (rows t) (λ i. fresh-reads t s i x)
 
 -- ---- a tick
 

@@ -11,7 +11,7 @@ use Rattle.columns.specs.Column.{Bytes}
 use Rattle.columns.specs.First.{firstFrom}
 use Rattle.columns.proofs.Columns.{length-tabulate, row-tabulate}
 use Rattle.columns.proofs.First.{first-none, none-first}
-use Rattle.columns.proofs.Parts.{length-joined, part-joined}
+use Rattle.columns.proofs.Parts.{length-concatRows, part-concatRows}
 use Rattle.world.specs.Rows.{rows}
 use Rattle.refusals.proofs.Passed.{passed-unless, passed-at}
 use Rattle.electrical.specs.Emitted.{IsValid}
@@ -112,6 +112,6 @@ fresh-valid p t =
     let wide : (i : ℕ) → i < rows t → length (freshRow t s i) ≡ 16 = λ i l. length-fresh t s i in
     state-valid t (freshState p t)
     (record {
-      sized = length-joined 16 (freshRow t s) (rows t) wide;
-      good = λ i l. rw (part-joined 16 (freshRow t s) (rows t) wide i l) (fresh-good t i s);
+      sized = length-concatRows 16 (freshRow t s) (rows t) wide;
+      good = λ i l. rw (part-concatRows 16 (freshRow t s) (rows t) wide i l) (fresh-good t i s);
     })

@@ -11,7 +11,7 @@ use Rattle.electrical.specs.Answer.{settled}
 use Rattle.updates.specs.State.{devicesOf}
 
 -- One entry a row of the table t in the device column and in the three output columns.
-pub record Room (t : Bytes) (d signal weak strong : Column) : Type 0 where
+pub record ColumnLengths (t : Bytes) (d signal weak strong : Column) : Type 0 where
   pub device-rows : length d ≡ rows t
   pub signal-rows : length signal ≡ rows t
   pub weak-rows : length weak ≡ rows t
@@ -24,7 +24,7 @@ pub record Ready (p t st : Bytes) : Type 0 where
   pub valid : IsValid t (devicesOf t st)
 
 -- The output columns hold what the devices d settle to.
-pub record Stands (p t : Bytes) (d signal weak strong : Column) : Type 0 where
+pub record HoldsSettled (p t : Bytes) (d signal weak strong : Column) : Type 0 where
   pub signals : signal ≡ settled p t d .signal
   pub weaks : weak ≡ settled p t d .weak
   pub strongs : strong ≡ settled p t d .strong
@@ -32,4 +32,4 @@ pub record Stands (p t : Bytes) (d signal weak strong : Column) : Type 0 where
 -- The device column is that of the state st, and the output columns hold what it settles to.
 pub record Settled (p t st : Bytes) (d signal weak strong : Column) : Type 0 where
   pub devices : d ≡ devicesOf t st
-  pub stands : Stands p t (devicesOf t st) signal weak strong
+  pub holds : HoldsSettled p t (devicesOf t st) signal weak strong

@@ -15,7 +15,7 @@ ghost use Rattle.electrical.specs.Emitted.{IsValid};
 ghost use Rattle.electrical.specs.Answer.{roundsOf};
 ghost use Rattle.updates.specs.State.{devicesOf, IsValidState, freshDevices, freshState};
 ghost use Rattle.updates.specs.Tick.{tick, ticks};
-ghost use Rattle.sim.specs.Running.{Room, Ready, Stands, Settled};
+ghost use Rattle.sim.specs.Running.{ColumnLengths, Ready, HoldsSettled, Settled};
 
 // Settles the devices. No table needs more rounds than the limit given here.
 fn settle(
@@ -26,9 +26,9 @@ fn settle(
     weak: &mut [u8],
     strong: &mut [u8],
 ) -> u32
-    requires { ⌜ IsAccepted (now profile) (now table) × IsValid (now table) (now devices) × Room (now table) (now devices) (now signal) (now weak) (now strong) ⌝ }
+    requires { ⌜ IsAccepted (now profile) (now table) × IsValid (now table) (now devices) × ColumnLengths (now table) (now devices) (now signal) (now weak) (now strong) ⌝ }
     ensures rounds { λ r. ⌜ r ≡ roundsOf (now (profile .entry)) (now (table .entry)) (now (devices .entry)) ⌝ }
-    ensures columns { λ r. ⌜ Stands (now (profile .entry)) (now (table .entry)) (now (devices .entry)) (now (signal .exit)) (now (weak .exit)) (now (strong .exit)) ⌝ }
+    ensures columns { λ r. ⌜ HoldsSettled (now (profile .entry)) (now (table .entry)) (now (devices .entry)) (now (signal .exit)) (now (weak .exit)) (now (strong .exit)) ⌝ }
 {
     let outcome = solver::solve(profile, table, devices, Rounds::MAX, signal, weak, strong);
     match outcome {
@@ -47,7 +47,7 @@ pub fn settle_state(
     weak: &mut [u8],
     strong: &mut [u8],
 ) -> u32
-    requires { ⌜ Ready (now profile) (now table) (now state) × Room (now table) (now devices) (now signal) (now weak) (now strong) ⌝ }
+    requires { ⌜ Ready (now profile) (now table) (now state) × ColumnLengths (now table) (now devices) (now signal) (now weak) (now strong) ⌝ }
     ensures rounds { λ r. ⌜ r ≡ roundsOf (now (profile .entry)) (now (table .entry)) (devicesOf (now (table .entry)) (now (state .entry))) ⌝ }
     ensures columns { λ r. ⌜ Settled (now (profile .entry)) (now (table .entry)) (now (state .entry)) (now (devices .exit)) (now (signal .exit)) (now (weak .exit)) (now (strong .exit)) ⌝ }
 {
@@ -66,7 +66,7 @@ fn advance_tick(
     strong: &mut [u8],
 ) -> u32
     requires { ⌜ IsAccepted (now profile) (now table) × IsValidState (now table) (now state) ⌝ }
-    requires { ⌜ Room (now table) (now devices) (now signal) (now weak) (now strong) × Settled (now profile) (now table) (now state) (now devices) (now signal) (now weak) (now strong) ⌝ }
+    requires { ⌜ ColumnLengths (now table) (now devices) (now signal) (now weak) (now strong) × Settled (now profile) (now table) (now state) (now devices) (now signal) (now weak) (now strong) ⌝ }
     ensures next { λ r. ⌜ now (state .exit) ≡ tick (now (profile .entry)) (now (table .entry)) (now (state .entry)) ⌝ }
     ensures rounds { λ r. ⌜ r ≡ roundsOf (now (profile .entry)) (now (table .entry)) (devicesOf (now (table .entry)) (now (state .exit))) ⌝ }
     ensures columns { λ r. ⌜ Settled (now (profile .entry)) (now (table .entry)) (now (state .exit)) (now (devices .exit)) (now (signal .exit)) (now (weak .exit)) (now (strong .exit)) ⌝ }
@@ -88,7 +88,7 @@ pub fn settle_ticks(
     weak: &mut [u8],
     strong: &mut [u8],
 ) -> u32
-    requires { ⌜ IsAccepted (now profile) (now table) × IsValidState (now table) (now state) × Room (now table) (now devices) (now signal) (now weak) (now strong) ⌝ }
+    requires { ⌜ IsAccepted (now profile) (now table) × IsValidState (now table) (now state) × ColumnLengths (now table) (now devices) (now signal) (now weak) (now strong) ⌝ }
     ensures next { λ r. ⌜ now (state .exit) ≡ ticks count (now (profile .entry)) (now (table .entry)) (now (state .entry)) ⌝ }
     ensures rounds { λ r. ⌜ r ≡ roundsOf (now (profile .entry)) (now (table .entry)) (devicesOf (now (table .entry)) (now (state .exit))) ⌝ }
     ensures columns { λ r. ⌜ Settled (now (profile .entry)) (now (table .entry)) (now (state .exit)) (now (devices .exit)) (now (signal .exit)) (now (weak .exit)) (now (strong .exit)) ⌝ }
@@ -112,10 +112,10 @@ pub fn new_state(
     weak: &mut [u8],
     strong: &mut [u8],
 ) -> u32
-    requires { ⌜ IsAccepted (now profile) (now table) × (length (now state) ≡ rows (now table) * 16) × Room (now table) (now devices) (now signal) (now weak) (now strong) ⌝ }
+    requires { ⌜ IsAccepted (now profile) (now table) × (length (now state) ≡ rows (now table) * 16) × ColumnLengths (now table) (now devices) (now signal) (now weak) (now strong) ⌝ }
     ensures next { λ r. ⌜ now (state .exit) ≡ freshState (now (profile .entry)) (now (table .entry)) ⌝ }
     ensures rounds { λ r. ⌜ r ≡ roundsOf (now (profile .entry)) (now (table .entry)) (freshDevices (now (table .entry))) ⌝ }
-    ensures columns { λ r. ⌜ Stands (now (profile .entry)) (now (table .entry)) (freshDevices (now (table .entry))) (now (signal .exit)) (now (weak .exit)) (now (strong .exit)) ⌝ }
+    ensures columns { λ r. ⌜ HoldsSettled (now (profile .entry)) (now (table .entry)) (freshDevices (now (table .entry))) (now (signal .exit)) (now (weak .exit)) (now (strong .exit)) ⌝ }
 {
     fill_fresh_devices(table, devices);
     let rounds = settle(profile, table, devices, signal, weak, strong);

@@ -14,19 +14,19 @@ use Rattle.world.specs.Rows.{rows}
 use Rattle.refusals.specs.Accepted.{Table}
 use Rattle.electrical.specs.Emitted as Emitted
 use Rattle.electrical.specs.Answer as Answer
-use Rattle.electrical.specs.Edges.{strongly, through, networkOf}
+use Rattle.electrical.specs.Edges.{emittedToStrong, strongToWeak, networkOf}
 use Rattle.gather.specs.Arrivals.{directAt}
 use Rattle.gather.specs.Slots as Slots
 use Rattle.rounds.specs.declared.Outcome.{Outcome}
 use Rattle.rounds.specs.Outcome.{Solves}
 use Rattle.rounds.proofs.Rounds.{made-rows}
-use Rattle.solver.specs.Made.{Made, Room}
+use Rattle.solver.specs.Prepare.{PreparedFrom, PreparedLengths}
 
 module _ (p : Bytes) (d : Column) {t : Bytes} {e₀ g₀ base₀ direct₀ feeders₀ unders₀ e g base direct feeders unders : Column} {empty : Bool}
-    (accepted : Table t) (room : Room t e₀ g₀ base₀ direct₀ feeders₀ unders₀)
+    (accepted : Table t) (room : PreparedLengths t e₀ g₀ base₀ direct₀ feeders₀ unders₀)
     (e-is : e ≡ tabulate (length e₀) (λ i. Emitted.emittedLevel t i (row d i)))
-    (g-is : g ≡ tabulate (length g₀) (arriving (length e) (strongly p t) (row e)))
-    (base-is : base ≡ tabulate (length base₀) (arriving (length g) (through p t) (row g)))
+    (g-is : g ≡ tabulate (length g₀) (arriving (length e) (emittedToStrong p t) (row e)))
+    (base-is : base ≡ tabulate (length base₀) (arriving (length g) (strongToWeak p t) (row g)))
     (direct-is : direct ≡ tabulate (length direct₀) (directAt p t e g))
     (feeders-is : feeders ≡ Slots.feeders p t (length feeders₀)) (unders-is : unders ≡ Slots.unders p t (length unders₀))
     (empty-is : empty ≡ unmapped (networkOf p t)) where
@@ -40,9 +40,9 @@ module _ (p : Bytes) (d : Column) {t : Bytes} {e₀ g₀ base₀ direct₀ feede
   unfolding strongOf networkOf
   charged = g-is ∙ rw (room .charged-rows, e-rows)
 
-  pub made : Made p t d e g base direct feeders unders empty
+  pub prepared-from : PreparedFrom p t d e g base direct feeders unders empty
   unfolding Emitted.emitted
-  made =
+  prepared-from =
       record {
         emitted-is = e-is ∙ rw (room .emitted-rows);
         charged-is = charged;

@@ -8,7 +8,7 @@ ghost use Rattle.refusals.specs.Accepted.{Table};
 ghost use Rattle.electrical.specs.Answer.{roundsOf, settled};
 ghost use Rattle.rounds.specs.Prepared.{Outputs};
 ghost use Rattle.rounds.specs.Outcome.{Solves};
-ghost use Rattle.solver.specs.Made.{Made, Room};
+ghost use Rattle.solver.specs.Prepare.{PreparedFrom, PreparedLengths};
 
 // What no round changes, and whether the power map is empty.
 fn prepare(
@@ -23,12 +23,12 @@ fn prepare(
     unders: &mut [u16],
 ) -> bool
     requires { ⌜ Table (now table) ⌝ }
-    requires { ⌜ Room (now table) (now emitted) (now charged) (now base) (now direct) (now feeders) (now unders) ⌝ }
-    ensures { λ r. ⌜ Made (now (profile .entry)) (now (table .entry)) (now (devices .entry)) (now (emitted .exit)) (now (charged .exit)) (now (base .exit)) (now (direct .exit)) (now (feeders .exit)) (now (unders .exit)) r ⌝ }
+    requires { ⌜ PreparedLengths (now table) (now emitted) (now charged) (now base) (now direct) (now feeders) (now unders) ⌝ }
+    ensures { λ r. ⌜ PreparedFrom (now (profile .entry)) (now (table .entry)) (now (devices .entry)) (now (emitted .exit)) (now (charged .exit)) (now (base .exit)) (now (direct .exit)) (now (feeders .exit)) (now (unders .exit)) r ⌝ }
 {
     arrivals::fill_emitted(table, devices, emitted);
-    arrivals::fill_arriving(Edge::Strongly, profile, table, emitted, charged);
-    arrivals::fill_arriving(Edge::Through, profile, table, charged, base);
+    arrivals::fill_arriving(Edge::EmittedToStrong, profile, table, emitted, charged);
+    arrivals::fill_arriving(Edge::StrongToWeak, profile, table, charged, base);
     arrivals::fill_direct(profile, table, emitted, charged, direct);
     slots::fill_feeders(profile, table, feeders);
     slots::fill_unders(profile, table, unders);
@@ -52,7 +52,7 @@ pub fn solve_in(
     strong: &mut [u8],
 ) -> Outcome
     requires { ⌜ Table (now table) ⌝ }
-    requires { ⌜ Room (now table) (now emitted) (now charged) (now base) (now direct) (now feeders) (now unders) ⌝ }
+    requires { ⌜ PreparedLengths (now table) (now emitted) (now charged) (now base) (now direct) (now feeders) (now unders) ⌝ }
     requires { ⌜ Outputs (now table) (now signal) (now weak) (now strong) ⌝ }
     ensures { λ r. ⌜ Solves (roundsOf (now (profile .entry)) (now (table .entry)) (now (devices .entry))) (settled (now (profile .entry)) (now (table .entry)) (now (devices .entry))) limit (now (signal .entry)) (now (weak .entry)) (now (strong .entry)) (now (signal .exit)) (now (weak .exit)) (now (strong .exit)) r ⌝ }
 {

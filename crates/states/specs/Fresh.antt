@@ -26,7 +26,7 @@ freshQueue t i = cond (eqb (kindOf t i) Repeater) (freshDevice t i * (2 ^ delayO
 
 -- the numbers of a settled state, as three columns hold them: no step reads which rows the power map holds
 abbrev pub numbersOf : Column → Column → Column → State
-numbersOf signal weak strong = record { signal = signal; held = []; weak = weak; strong = strong }
+numbersOf signal weak strong = record { signal = signal; onMap = []; weak = weak; strong = strong }
 
 -- the power alone: neither a torch nor a lamp reads a signal
 abbrev pub powersOf : Column → Column → State

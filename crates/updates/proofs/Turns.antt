@@ -6,7 +6,7 @@ use native.Mathlib.Nat.{le-antisymm, add-zero}
 use native.Mathlib.Omega.{arith}
 use lib.ListN.{length, getD}
 use borrow.Rule.Slice.PartMut.{midOf, putMid, same-len-mid}
-use Rattle.columns.specs.Column.{Bytes, part, joined}
+use Rattle.columns.specs.Column.{Bytes, part, concatRows}
 use Rattle.columns.proofs.Parts.{length-part, part-at, Written, written-none, written-lent, written-more, written-all}
 use Rattle.world.specs.Rows.{rows}
 
@@ -51,7 +51,7 @@ module _ {g : ℕ → Bytes → Bytes} {t s : Bytes} {n i : ℕ} {now : Bytes} (
       }
 
 -- once every row is written
-pub turns-all : {g : ℕ → Bytes → Bytes} {t s : Bytes} {n i : ℕ} {now : Bytes} → Turns g t s n i now → n ≤ i → now ≡ joined (rows t) (λ k. g k (part 16 s k))
+pub turns-all : {g : ℕ → Bytes → Bytes} {t s : Bytes} {n i : ℕ} {now : Bytes} → Turns g t s n i now → n ≤ i → now ≡ concatRows (rows t) (λ k. g k (part 16 s k))
 turns-all {t = t} h l = written-all (h .written) (rows t) (le-antisymm (h .within) l ∙ h .all) (h .old)
 
 -- what `search` is handed at the needs of such a loop but the last

@@ -5,7 +5,7 @@ use mathlib.Core.Bool.{Bool, not}
 use Prim.Native.Nat.{ℕ, _*_}
 use lib.ListN.{length}
 use lib.Dec.{eqb}
-use Rattle.columns.specs.Column.{Bytes, Column, tabulate, part, joined}
+use Rattle.columns.specs.Column.{Bytes, Column, tabulate, part, concatRows}
 use Rattle.columns.specs.First.{firstFrom}
 use Rattle.world.specs.Rows.{rows}
 use Rattle.refusals.specs.declared.Checked.{Checked}
@@ -42,4 +42,4 @@ unfoldable pub freshDevices : Bytes → Column
 freshDevices t = tabulate (rows t) (freshDevice t)
 
 unfoldable pub freshState : Bytes → Bytes → Bytes
-freshState p t = let s = settled p t (freshDevices t) in joined (rows t) (freshRow t s)
+freshState p t = let s = settled p t (freshDevices t) in concatRows (rows t) (freshRow t s)

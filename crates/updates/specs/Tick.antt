@@ -1,7 +1,7 @@
 -- A tick: "sets all devices from the old settled state, settles, then does lamps".
 -- Assumes nothing.
 use Prim.Native.Nat.{ℕ, zero, suc}
-use Rattle.columns.specs.Column.{Bytes, Column, joined}
+use Rattle.columns.specs.Column.{Bytes, Column, concatRows}
 use Rattle.network.specs.Network.{State}
 use Rattle.world.specs.Rows.{rows}
 use Rattle.electrical.specs.Answer.{settled}
@@ -10,11 +10,11 @@ use Rattle.updates.specs.State.{sixteen, devicesOf}
 
 -- every device set, from the device column d and the settled state s
 unfoldable pub withDevices : Bytes → Bytes → Column → State → Bytes → Bytes
-withDevices p t d s st = joined (rows t) (λ i. deviceRow p t d s i (sixteen st i))
+withDevices p t d s st = concatRows (rows t) (λ i. deviceRow p t d s i (sixteen st i))
 
 -- every lamp set, from the settled state s
 unfoldable pub withLamps : Bytes → State → Bytes → Bytes
-withLamps t s st = joined (rows t) (λ i. lampRow t s i (sixteen st i))
+withLamps t s st = concatRows (rows t) (λ i. lampRow t s i (sixteen st i))
 
 -- the numbers of a state, settled
 unfoldable pub settledOf : Bytes → Bytes → Bytes → State

@@ -8,7 +8,7 @@ use world::row::rows;
 ghost use mathlib.Core.Path.{_≡_};
 ghost use Prim.Native.Nat.{_*_};
 ghost use lib.ListN.{length};
-ghost use Rattle.columns.specs.Column.{joined};
+ghost use Rattle.columns.specs.Column.{concatRows};
 ghost use Rattle.world.specs.Rows.{rows};
 ghost use Rattle.states.specs.Fresh.{numbersOf, powersOf, freshRow};
 ghost use Rattle.updates.specs.State.{devicesOf, freshDevices};
@@ -84,7 +84,7 @@ pub fn set_lamps(table: &[u8], weak: &[u8], strong: &[u8], state: &mut [u8])
 // Every row of a table that was just built, from the settled power.
 pub fn fill_fresh(table: &[u8], weak: &[u8], strong: &[u8], state: &mut [u8])
     requires { ⌜ length (now state) ≡ rows (now table) * 16 ⌝ }
-    ensures { λ _. ⌜ now (state .exit) ≡ joined (rows (now (table .entry))) (freshRow (now (table .entry)) (powersOf (now (weak .entry)) (now (strong .entry)))) ⌝ }
+    ensures { λ _. ⌜ now (state .exit) ≡ concatRows (rows (now (table .entry))) (freshRow (now (table .entry)) (powersOf (now (weak .entry)) (now (strong .entry)))) ⌝ }
 {
     let n = rows(table);
     let mut i = 0;

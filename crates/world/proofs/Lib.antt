@@ -1,4 +1,4 @@
 pub mod Finding
 pub mod LookUps
 pub mod Thin
-pub mod Made
+pub mod Plain

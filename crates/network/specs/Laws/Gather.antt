@@ -1,5 +1,5 @@
 -- What arrives at a row, as code finds it: from source to source, or from the few rows where an edge can start.
--- Assumes nothing.
+-- Proved laws: nobody has to believe them, or read them to know what is promised. Assumes nothing.
 use mathlib.Core.Path.{_≡_, refl}
 use mathlib.Core.Logic.{⊎-elim}
 use mathlib.Core.Bool.{Bool, true, false, cond, _&&_}

@@ -1,5 +1,5 @@
 -- The one law of settling: a relation between numbers that 0, 1, `max`, the cap and the loss of one keep, every round keeps.
--- Assumes nothing.
+-- Proved laws: nobody has to believe them, or read them to know what is promised. Assumes nothing.
 use mathlib.Core.Path.{_≡_}
 use mathlib.Core.Bool.{Bool, true, false, cond}
 use mathlib.Core.Logic.{by-cases}
@@ -11,11 +11,11 @@ use Rattle.columns.specs.Column.{Column, row, tabulate}
 use Rattle.columns.specs.Signal.{maxSignal}
 use Rattle.columns.proofs.Columns.{length-tabulate, row-tabulate}
 use Rattle.network.specs.Levels.{top, arriving}
-use Rattle.network.specs.Network.{Network, strongOf, weakOf, level, signals, heldOf, emptyMap, start, round, after}
-use Rattle.network.specs.Compare.{Rel, Rows, States}
+use Rattle.network.specs.Network.{Network, strongOf, weakOf, level, signals, onMapOf, emptyMap, start, round, after}
+use Rattle.network.specs.Compare.{Rel₃, AtEveryRow₃, States₃}
 
 -- The relation R is kept: by no level and by the mark of the map, by `max`, by the cap, and by the loss of one, which takes Q to R.
-pub record Kept (Q R : Rel) : Type 0 where
+pub record Kept (Q R : Rel₃) : Type 0 where
   pub none : R 0 0 0
   pub mark : R 1 1 1
   pub most : {a b c p q r : ℕ} → R a b c → R p q r → R (max a p) (max b q) (max c r)
@@ -26,9 +26,9 @@ pub record Kept (Q R : Rel) : Type 0 where
 pub row-past : (n : ℕ) (f : ℕ → ℕ) (k : ℕ) → n ≤ k → row (tabulate n f) k ≡ 0
 row-past n f k h = List·getD-eq-default (tabulate n f) 0 (rw (length-tabulate n 0 f) h)
 
-module _ {Q R : Rel} (d : Kept Q R) where
+module _ {Q R : Rel₃} (d : Kept Q R) where
   -- columns by related rules
-  pub tabulate-kept : (n : ℕ) {f g h : ℕ → ℕ} → ((i : ℕ) → R (f i) (g i) (h i)) → Rows R (tabulate n f) (tabulate n g) (tabulate n h)
+  pub tabulate-kept : (n : ℕ) {f g h : ℕ → ℕ} → ((i : ℕ) → R (f i) (g i) (h i)) → AtEveryRow₃ R (tabulate n f) (tabulate n g) (tabulate n h)
   tabulate-kept n {f} {g} {h} u =
       record {
         at =
@@ -52,51 +52,51 @@ module _ {Q R : Rel} (d : Kept Q R) where
   unfolding arriving
   arriving-kept n edge u i = top-kept n (λ j. cond-kept (edge j i) (u j) (d .none))
 
-module _ (N : Network) {Q R : Rel} (d : Kept Q R) {a b c : Column} (e : Rows R a b c) where
-  open Network N using (size, dust, strongly, transmits, lights, drives)
+module _ (N : Network) {Q R : Rel₃} (d : Kept Q R) {a b c : Column} (e : AtEveryRow₃ R a b c) where
+  open Network N using (size, dust, emittedToStrong, transmits, emittedToDust, strongToDust)
 
-  pub signals-kept : {x y z : ℕ → ℕ} → ((i : ℕ) → R (x i) (y i) (z i)) → Rows R (signals N a x) (signals N b y) (signals N c z)
+  pub signals-kept : {x y z : ℕ → ℕ} → ((i : ℕ) → R (x i) (y i) (z i)) → AtEveryRow₃ R (signals N a x) (signals N b y) (signals N c z)
   unfolding signals
   signals-kept u = tabulate-kept d size (λ i. cond-kept d (dust i) (u i) (e .at i))
 
-  strongOf-kept : Rows R (strongOf N a) (strongOf N b) (strongOf N c)
+  strongOf-kept : AtEveryRow₃ R (strongOf N a) (strongOf N b) (strongOf N c)
   unfolding strongOf
-  strongOf-kept = tabulate-kept d size (arriving-kept d size strongly (e .at))
+  strongOf-kept = tabulate-kept d size (arriving-kept d size emittedToStrong (e .at))
 
-  pub level-kept : {s t u : Column} → Rows Q s t u
+  pub level-kept : {s t u : Column} → AtEveryRow₃ Q s t u
       → (i : ℕ) → R (level N a (strongOf N a) s i) (level N b (strongOf N b) t i) (level N c (strongOf N c) u i)
   unfolding level
   level-kept q i =
       d .cap
       (d .most (arriving-kept d size transmits (λ j. d .less (q .at j)) i)
-      (d .most (arriving-kept d size lights (e .at) i) (arriving-kept d size drives (strongOf-kept .at) i)))
+      (d .most (arriving-kept d size emittedToDust (e .at) i) (arriving-kept d size strongToDust (strongOf-kept .at) i)))
 
-module _ (N : Network) {R : Rel} (d : Kept R R) {a b c : Column} (e : Rows R a b c) where
-  open Network N using (size, mapped, through, under)
+module _ (N : Network) {R : Rel₃} (d : Kept R R) {a b c : Column} (e : AtEveryRow₃ R a b c) where
+  open Network N using (size, mapped, strongToWeak, dustToWeak)
 
-  weakOf-kept : {s t u : Column} → Rows R s t u → Rows R (weakOf N (strongOf N a) s) (weakOf N (strongOf N b) t) (weakOf N (strongOf N c) u)
+  weakOf-kept : {s t u : Column} → AtEveryRow₃ R s t u → AtEveryRow₃ R (weakOf N (strongOf N a) s) (weakOf N (strongOf N b) t) (weakOf N (strongOf N c) u)
   unfolding weakOf
   weakOf-kept q =
       tabulate-kept d size
-      (λ i. d .most (arriving-kept d size through (strongOf-kept N d e .at) i) (arriving-kept d size under (q .at) i))
+      (λ i. d .most (arriving-kept d size strongToWeak (strongOf-kept N d e .at) i) (arriving-kept d size dustToWeak (q .at) i))
 
-  emptyMap-kept : Rows R (emptyMap N) (emptyMap N) (emptyMap N)
+  emptyMap-kept : AtEveryRow₃ R (emptyMap N) (emptyMap N) (emptyMap N)
   unfolding emptyMap
   emptyMap-kept = tabulate-kept d size (λ i. d .none)
 
-  heldOf-kept : Rows R (heldOf N) (heldOf N) (heldOf N)
-  unfolding heldOf
-  heldOf-kept = tabulate-kept d size (λ i. cond-kept d (mapped i) (d .mark) (d .none))
+  onMapOf-kept : AtEveryRow₃ R (onMapOf N) (onMapOf N) (onMapOf N)
+  unfolding onMapOf
+  onMapOf-kept = tabulate-kept d size (λ i. cond-kept d (mapped i) (d .mark) (d .none))
 
   -- at every round
-  pub after-kept : (k : ℕ) → States R (after N a k) (after N b k) (after N c k)
+  pub after-kept : (k : ℕ) → States₃ R (after N a k) (after N b k) (after N c k)
   unfolding after start round
   after-kept zero =
-      record { signal = signals-kept N d e (λ i. d .none); held = emptyMap-kept; weak = emptyMap-kept; strong = emptyMap-kept }
+      record { signal = signals-kept N d e (λ i. d .none); onMap = emptyMap-kept; weak = emptyMap-kept; strong = emptyMap-kept }
   after-kept (suc k) =
       record {
         signal = signals-kept N d e (level-kept N d e (after-kept k .signal));
-        held = heldOf-kept;
+        onMap = onMapOf-kept;
         weak = weakOf-kept (after-kept k .signal);
         strong = strongOf-kept N d e;
       }

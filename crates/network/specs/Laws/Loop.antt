@@ -1,6 +1,6 @@
 -- A solver's loop, which keeps the signals and the weak power of the last round. Strong power is the same in every round, and so is the map but
 -- before the first: so the loop asks once whether the map is empty, and keeps no map.
--- Assumes nothing.
+-- Proved laws: nobody has to believe them, or read them to know what is promised. Assumes nothing.
 use mathlib.Core.Path.{_≡_, refl, ap, sym, _∙_}
 use mathlib.Core.Bool.{Bool, true, false, cond, _&&_, _||_, false≢true}
 use Prim.Native.Nat.{ℕ, zero, suc, _+_, _<_}
@@ -11,27 +11,27 @@ use borrow.Author.Tests.{lt-ltb}
 use Rattle.columns.specs.Column.{Column, row, same}
 use Rattle.columns.proofs.Columns.{length-tabulate, row-tabulate, same-rule, is-tabulate, same-true, same-refl}
 use Rattle.columns.proofs.Truth.{and-true}
-use Rattle.network.specs.Network.{Network, strongOf, weakOf, level, signals, heldOf, emptyMap, start, round, after, Answers}
+use Rattle.network.specs.Network.{Network, strongOf, weakOf, level, signals, onMapOf, emptyMap, start, round, after, Answers}
 use Rattle.network.specs.Settled.{roundsOf, settled}
-use Rattle.network.specs.Compare.{OnMap}
+use Rattle.network.specs.Compare.{PowerOnMap}
 use Rattle.network.specs.Demand.{rounds-first, rounds-are}
 use Rattle.network.specs.Laws.States.{one-state}
-use Rattle.network.specs.Laws.Seek.{none-yet, none-more}
+use Rattle.network.specs.Laws.FirstAnswering.{none-yet, none-more}
 use Rattle.network.specs.Laws.Map.{strongOf-off}
 
 -- ---- the map
 
 -- no row stands on the map: it is empty
 unfoldable pub unmapped : Network → Bool
-unmapped N = same (heldOf N) (emptyMap N)
+unmapped N = same (onMapOf N) (emptyMap N)
 
 module _ (N : Network) where
   pub unmapped-true : ((i : ℕ) → i < N .size → N .mapped i ≡ false) → unmapped N ≡ true
-  unfolding unmapped heldOf emptyMap
+  unfolding unmapped onMapOf emptyMap
   unmapped-true h = rw (same-rule (N .size) (λ i. cond (N .mapped i) 1 0) (λ i. 0) (λ i l. rw (h i l))) (same-refl (emptyMap N))
 
-  none-mapped : heldOf N ≡ emptyMap N → (i : ℕ) → i < N .size → N .mapped i ≡ false
-  unfolding heldOf emptyMap
+  none-mapped : onMapOf N ≡ emptyMap N → (i : ℕ) → i < N .size → N .mapped i ≡ false
+  unfolding onMapOf emptyMap
   none-mapped p i l = go (N .mapped i) refl
     where
       is : _≡_ {A = ℕ} (cond (N .mapped i) 1 0) 0
@@ -49,7 +49,7 @@ module _ (N : Network) where
       go true p = absurd (false≢true (sym (none-mapped (same-true _ _ p) i l) ∙ q))
       go false p = p
 
-module _ (N : Network) (o : OnMap N) (e : Column) where
+module _ (N : Network) (o : PowerOnMap N) (e : Column) where
   strong-unmapped : unmapped N ≡ true → strongOf N e ≡ emptyMap N
   unfolding unmapped emptyMap strongOf
   strong-unmapped b =
@@ -66,13 +66,13 @@ module _ (N : Network) (o : OnMap N) (e : Column) where
   -- and only there
   answers-map : (k : ℕ) → Answers N e (suc k) → (ltb 0 k || unmapped N) ≡ true
   unfolding after start round unmapped
-  answers-map zero a = let p : heldOf N ≡ emptyMap N = ap (λ t. t .held) a in rw p (same-refl (emptyMap N))
+  answers-map zero a = let p : onMapOf N ≡ emptyMap N = ap (λ t. t .onMap) a in rw p (same-refl (emptyMap N))
   answers-map (suc k) a = rw (lt-ltb 0 (suc k) (omega arith))
 
 -- ---- the loop
 
 -- None of the k rounds so far answered. They left the signals s and the weak power w; g is the strong power, and `empty` says whether the map is.
-pub record Going (N : Network) (e : Column) (empty : Bool) (g : Column) (k : ℕ) (s w : Column) : Type 0 where
+pub record Unanswered (N : Network) (e : Column) (empty : Bool) (g : Column) (k : ℕ) (s w : Column) : Type 0 where
   pub map : empty ≡ unmapped N
   pub strong : g ≡ strongOf N e
   pub signal : s ≡ after N e k .signal
@@ -80,7 +80,7 @@ pub record Going (N : Network) (e : Column) (empty : Bool) (g : Column) (k : ℕ
   pub none : (j : ℕ) → Answers N e j → k < j
 
 -- The number of rounds is k, and s, w and g are settled.
-pub record Gone (N : Network) (e : Column) (g : Column) (k : ℕ) (s w : Column) : Type 0 where
+pub record Answered (N : Network) (e : Column) (g : Column) (k : ℕ) (s w : Column) : Type 0 where
   pub rounds : roundsOf N e ≡ k
   pub signal : s ≡ settled N e .signal
   pub weak : w ≡ settled N e .weak
@@ -90,17 +90,17 @@ pub record Gone (N : Network) (e : Column) (g : Column) (k : ℕ) (s w : Column)
 abbrev pub repeats : Bool → ℕ → Column → Column → Column → Column → Bool
 repeats empty k s w s′ w′ = same s s′ && same w w′ && (ltb 0 k || empty)
 
-pub going-start : {N : Network} {e : Column} {empty : Bool} {g s w : Column} → empty ≡ unmapped N → g ≡ strongOf N e
-    → s ≡ signals N e (λ i. 0) → w ≡ emptyMap N → Going N e empty g 0 s w
+pub unanswered-start : {N : Network} {e : Column} {empty : Bool} {g s w : Column} → empty ≡ unmapped N → g ≡ strongOf N e
+    → s ≡ signals N e (λ i. 0) → w ≡ emptyMap N → Unanswered N e empty g 0 s w
 unfolding after start
-going-start {N} {e} m h p q = record { map = m; strong = h; signal = p; weak = q; none = none-yet N e }
+unanswered-start {N} {e} m h p q = record { map = m; strong = h; signal = p; weak = q; none = none-yet N e }
 
 -- the rounds are more than k: a limit of k is below them
-pub going-out : {N : Network} {e : Column} {empty : Bool} {g : Column} {k : ℕ} {s w : Column} → Going N e empty g k s w → k < roundsOf N e
-going-out {N} {e} h = h .none (roundsOf N e) (rounds-first N e .answers)
+pub unanswered-out : {N : Network} {e : Column} {empty : Bool} {g : Column} {k : ℕ} {s w : Column} → Unanswered N e empty g k s w → k < roundsOf N e
+unanswered-out {N} {e} h = h .none (roundsOf N e) (rounds-first N e .answers)
 
 -- round k + 1
-module _ {N : Network} (o : OnMap N) {e : Column} {empty : Bool} {g : Column} {k : ℕ} {s w s′ w′ : Column} (h : Going N e empty g k s w)
+module _ {N : Network} (o : PowerOnMap N) {e : Column} {empty : Bool} {g : Column} {k : ℕ} {s w s′ w′ : Column} (h : Unanswered N e empty g k s w)
     (turned : s′ ≡ signals N e (level N e g s)) (powered : w′ ≡ weakOf N g s) where
   next-signal : s′ ≡ after N e (suc k) .signal
   unfolding after round
@@ -111,9 +111,9 @@ module _ {N : Network} (o : OnMap N) {e : Column} {empty : Bool} {g : Column} {k
   next-weak = powered ∙ rw (h .strong, h .signal)
 
   -- answers: so k + 1 is the number of rounds
-  pub going-stop : repeats empty k s w s′ w′ ≡ true → Gone N e g (k + 1) s′ w′
+  pub answered-next : repeats empty k s w s′ w′ ≡ true → Answered N e g (k + 1) s′ w′
   unfolding settled after round
-  going-stop t =
+  answered-next t =
       let (both, m) = and-true (same s s′ && same w w′) _ t in
       let (p, q) = and-true (same s s′) _ both in
       let answers : Answers N e (suc k) =
@@ -125,8 +125,8 @@ module _ {N : Network} (o : OnMap N) {e : Column} {empty : Bool} {g : Column} {k
       record { rounds = rw add-one is; signal = rw is next-signal; weak = rw is next-weak; strong = rw is (h .strong) }
 
   -- does not answer: so none up to k + 1 does
-  pub going-on : repeats empty k s w s′ w′ ≡ false → Going N e empty g (k + 1) s′ w′
-  going-on t =
+  pub unanswered-next : repeats empty k s w s′ w′ ≡ false → Unanswered N e empty g (k + 1) s′ w′
+  unanswered-next t =
       rw add-one
       (record {
         map = h .map;

@@ -1,5 +1,5 @@
 -- Settling ends: fifteen rounds forget the levels at which the dust began. So round 17 answers, and its levels alone satisfy the definition.
--- Assumes nothing.
+-- Proved laws: nobody has to believe them, or read them to know what is promised. Assumes nothing.
 use mathlib.Core.Path.{_≡_, refl, ap, sym, _∙_}
 use mathlib.Core.Bool.{Bool, true, false, cond, false≢true}
 use mathlib.Core.Logic.{_⊎_, inl, inr}
@@ -15,11 +15,11 @@ use Rattle.columns.specs.Column.{Column, row}
 use Rattle.columns.specs.Signal.{maxSignal}
 use Rattle.columns.proofs.Columns.{length-tabulate, row-tabulate, same-rows, same-rule}
 use Rattle.network.specs.Network.{Network, strongOf, level, signals, start, round, after, Answers, Satisfies, SatisfiesAt, Breaks}
-use Rattle.network.specs.Compare.{Rel, Rows}
+use Rattle.network.specs.Compare.{Rel₃, AtEveryRow₃}
 use Rattle.network.specs.Laws.Kept.{Kept, signals-kept, level-kept}
 
 -- at most the second number, or at most c
-abbrev Near : ℕ → Rel
+abbrev Near : ℕ → Rel₃
 Near c x y z = x ≤ max y c
 
 -- a round takes one off c
@@ -37,10 +37,10 @@ module _ (N : Network) (e : Column) where
   next : Column → Column
   next s = signals N e (level N e (strongOf N e) s)
 
-  near-same : (c : ℕ) → Rows (Near c) e e e
+  near-same : (c : ℕ) → AtEveryRow₃ (Near c) e e e
   near-same c = record { at = λ i. omega arith }
 
-  near-next : (c : ℕ) {s t : Column} → Rows (Near (suc c)) s t t → Rows (Near c) (next s) (next t) (next t)
+  near-next : (c : ℕ) {s t : Column} → AtEveryRow₃ (Near (suc c)) s t t → AtEveryRow₃ (Near c) (next s) (next t) (next t)
   unfolding next
   near-next c u = signals-kept N (near-kept c) (near-same c) (level-kept N (near-kept c) (near-same c) u)
 
@@ -48,7 +48,7 @@ module _ (N : Network) (e : Column) where
   record Run (u : ℕ → Column) : Type 0 where
     turn : (k : ℕ) → u (suc k) ≡ next (u k)
 
-  near-run : {u v : ℕ → Column} → Run u → Run v → (k c : ℕ) → Rows (Near (c + k)) (u 0) (v 0) (v 0) → Rows (Near c) (u k) (v k) (v k)
+  near-run : {u v : ℕ → Column} → Run u → Run v → (k c : ℕ) → AtEveryRow₃ (Near (c + k)) (u 0) (v 0) (v 0) → AtEveryRow₃ (Near c) (u k) (v k) (v k)
   near-run p q zero c h = record { at = λ i. omega (arith, h .at i) }
   near-run p q (suc k) c h =
       rw (p .turn k, q .turn k) (near-next c (near-run p q k (suc c) (record { at = λ i. omega (arith, h .at i) })))
@@ -59,7 +59,7 @@ module _ (N : Network) (e : Column) where
     low : (i : ℕ) → levels i ≤ maxSignal
     are : s ≡ signals N e levels
 
-  near-low : {s t : Column} → Low s → Low t → Rows (Near maxSignal) s t t
+  near-low : {s t : Column} → Low s → Low t → AtEveryRow₃ (Near maxSignal) s t t
   near-low p q = rw (p .are, q .are) (signals-kept N (near-kept maxSignal) (near-same maxSignal) (λ i. omega (arith, p .low i)))
 
   low-next : (s : Column) → Low (next s)
@@ -92,7 +92,7 @@ module _ (N : Network) (e : Column) where
   pub seventeen : Answers N e 17
   unfolding after round
   seventeen =
-      ap (λ s. round N e (record { signal = s; held = []; weak = []; strong = [] }))
+      ap (λ s. round N e (record { signal = s; onMap = []; weak = []; strong = [] }))
       (forget (run-after 1) (run-after 0) (low-after 1) (low-after 0))
 
   -- once a round answers, the next one does
@@ -147,7 +147,7 @@ module _ (N : Network) (e : Column) where
       go (inr b) _ _ _ = inr b
       go (inl u) false p _ = inl (more u (λ q. absurd (false≢true (sym p ∙ q))))
       go (inl u) true p (yes q) = inl (more u (λ _. q))
-      go (inl u) true p (no n) = inr (record { place = m; inside = h; lies = p; differs = n })
+      go (inl u) true p (no n) = inr (record { row = m; inside = h; isDust = p; differs = n })
 
   pub satisfied-or : (x : ℕ → ℕ) → Satisfies N e x ⊎ Breaks N e x
   satisfied-or x = satisfied-below x size (le-refl size)

@@ -1,5 +1,5 @@
 -- Laws of the largest of several levels.
--- Assumes nothing.
+-- Proved laws: nobody has to believe them, or read them to know what is promised. Assumes nothing.
 use mathlib.Core.Path.{_≡_, refl}
 use Prim.Native.Nat.{ℕ, zero, suc, _+_, _-_, _<_, max}
 use native.Mathlib.Nat.{le-refl}

@@ -5,7 +5,7 @@ use lib.ListN.{length}
 use Rattle.world.specs.Rows.{rows}
 use Rattle.refusals.specs.declared.Checked.the-variants.{Accepted}
 use Rattle.updates.specs.Calls.{checkFresh}
-use Rattle.sim.proofs.Passing.{Passed, passed-fresh, few, front, device-room}
+use Rattle.sim.proofs.Passing.{Passed, passed-fresh, few, front, device-lengths}
 use Rattle.sim.proofs.Answers.{fresh-done, fresh-refused}
 use borrow.Author.Needs.{needs}
 use Rattle.sim.proofs.fresh.Statement.{statement}
@@ -50,7 +50,7 @@ new-state-requires : tie.Need-new-state-requires
 new-state-requires c κs =
     let r = c .before .before .before .before .before in
     let p = passed r in
-    (p .accepted, p .state, device-room _ _ (p .accepted) (r .rows .ensures) (p .outputs))
+    (p .accepted, p .state, device-lengths _ _ (p .accepted) (r .rows .ensures) (p .outputs))
 
 same-length : tie.Need-same-length
 same-length c = search needs

@@ -5,7 +5,7 @@ use Rattle.refusals.specs.declared.Checked.the-variants.{Accepted}
 use Rattle.places.specs.Places.{cell}
 use Rattle.places.proofs.Signs.{back32}
 use Rattle.updates.specs.Calls.{checkStep}
-use Rattle.sim.proofs.Passing.{Turned, passed-step, few, front, device-room, switch-ready, switch-outputs, switch-rounds, switch-stands}
+use Rattle.sim.proofs.Passing.{Turned, passed-step, few, front, device-lengths, switch-ready, switch-outputs, switch-rounds, switch-holds}
 use Rattle.sim.proofs.Answers.{switch-done, switch-refused}
 use borrow.Author.Needs.{needs}
 use Rattle.sim.proofs.switch.Statement.{statement}
@@ -63,7 +63,7 @@ slice-aggregate-settle-state c = front _ _ (switch-ready (turned (c .before .bef
 settle-state-requires : tie.Need-settle-state-requires
 settle-state-requires c κs =
     let h = turned (c .before .before .before .before .before .before .before .before .before) in
-    (switch-ready h, device-room _ _ (switch-ready h .accepted) (c .before .before .before .before .before .rows .ensures) (switch-outputs h))
+    (switch-ready h, device-lengths _ _ (switch-ready h .accepted) (c .before .before .before .before .before .rows .ensures) (switch-outputs h))
 
 same-length-2 : tie.Need-same-length-2
 same-length-2 c = search needs
@@ -81,7 +81,7 @@ returns-2 : tie.Need-returns-2
 returns-2 c =
     let h = turned (c .before .before .before .before .before .before .before .before .before .before .before .before .before .before .before .before .before) in
     let done = c .before .before .before .before .before .before .before .settle-state .ensures in
-    switch-done (none (c .before .before .before .before .before .before .before .before .before .before .before .before .before .before .before .before .before)) (h .is) (switch-rounds h (done .0)) (switch-stands h (done .1 .stands))
+    switch-done (none (c .before .before .before .before .before .before .before .before .before .before .before .before .before .before .before .before .before)) (h .is) (switch-rounds h (done .0)) (switch-holds h (done .1 .holds))
 
 pub switch-spec : {M : Type 1} → statement M
 switch-spec =

@@ -4,7 +4,7 @@ use lib.ListN.{length}
 use Rattle.refusals.specs.declared.Checked.the-variants.{Accepted}
 use Rattle.updates.specs.State.{IsValidState}
 use Rattle.updates.specs.Calls.{checkTick}
-use Rattle.sim.proofs.Passing.{Passed, passed-tick, few, front, device-room}
+use Rattle.sim.proofs.Passing.{Passed, passed-tick, few, front, device-lengths}
 use Rattle.sim.proofs.Answers.{ticks-done, ticks-refused}
 use borrow.Author.Needs.{needs}
 use Rattle.sim.proofs.tick.Statement.{statement}
@@ -52,7 +52,7 @@ settle-ticks-requires : tie.Need-settle-ticks-requires
 settle-ticks-requires c κs =
     let r = c .before .before .before .before .before in
     let p = passed r in
-    (p .accepted, p .state, device-room _ _ (p .accepted) (r .rows .ensures) (p .outputs))
+    (p .accepted, p .state, device-lengths _ _ (p .accepted) (r .rows .ensures) (p .outputs))
 
 same-length-2 : tie.Need-same-length-2
 same-length-2 c = search needs

@@ -18,8 +18,8 @@ pos-of-requires c κs = search needs
 around-at-requires : tie.Need-around-at-requires
 around-at-requires c κs = search needs
 
-seek-requires : tie.Need-seek-requires
-seek-requires c κs = search needs
+find-by-halves-requires : tie.Need-find-by-halves-requires
+find-by-halves-requires c κs = search needs
 
 enum-known-j : tie.Need-enum-known-j
 enum-known-j c = search needs
@@ -29,7 +29,7 @@ enum-told c = search needs
 
 returns-2 : tie.Need-returns-2
 unfolding feederAt slotOf
-returns-2 c = rw (← c .before .before .before .before .before .before .kind-of .ensures, eq-eqb _ 3 (c .before .before .before .before .before .if1 .left), ← c .before .before .before .before .pos-of .ensures, ← c .before .before .before .around-at .ensures, ← c .before .before .seek .ensures, c .enum-told .given .1)
+returns-2 c = rw (← c .before .before .before .before .before .before .kind-of .ensures, eq-eqb _ 3 (c .before .before .before .before .before .if1 .left), ← c .before .before .before .before .pos-of .ensures, ← c .before .before .before .around-at .ensures, ← c .before .before .find-by-halves .ensures, c .enum-told .given .1)
 
 transmits-requires : tie.Need-transmits-requires
 transmits-requires c κs = search needs
@@ -39,7 +39,7 @@ slot-of-requires c κs = search needs
 
 returns-3 : tie.Need-returns-3
 unfolding feederAt slotOf
-returns-3 c = rw (← c .before .before .before .before .before .before .before .before .before .kind-of .ensures, eq-eqb _ 3 (c .before .before .before .before .before .before .before .before .if1 .left), ← c .before .before .before .before .before .before .before .pos-of .ensures, ← c .before .before .before .before .before .before .around-at .ensures, ← c .before .before .before .before .before .seek .ensures, c .before .before .before .j .given .1, ← c .before .transmits .ensures) (c .slot-of .ensures)
+returns-3 c = rw (← c .before .before .before .before .before .before .before .before .before .kind-of .ensures, eq-eqb _ 3 (c .before .before .before .before .before .before .before .before .if1 .left), ← c .before .before .before .before .before .before .before .pos-of .ensures, ← c .before .before .before .before .before .before .around-at .ensures, ← c .before .before .before .before .before .find-by-halves .ensures, c .before .before .before .j .given .1, ← c .before .transmits .ensures) (c .slot-of .ensures)
 
 pub feeder-at-spec : {M : Type 1} → statement M
 feeder-at-spec =
@@ -49,7 +49,7 @@ feeder-at-spec =
     returns
     pos-of-requires
     around-at-requires
-    seek-requires
+    find-by-halves-requires
     enum-known-j
     enum-told
     returns-2

@@ -18,8 +18,8 @@ pos-of-requires c κs = search needs
 over-at-requires : tie.Need-over-at-requires
 over-at-requires c κs = search needs
 
-seek-requires : tie.Need-seek-requires
-seek-requires c κs = search needs
+find-by-halves-requires : tie.Need-find-by-halves-requires
+find-by-halves-requires c κs = search needs
 
 enum-known-j : tie.Need-enum-known-j
 enum-known-j c = search needs
@@ -29,17 +29,17 @@ enum-told c = search needs
 
 returns-2 : tie.Need-returns-2
 unfolding underAt slotOf
-returns-2 c = rw (← c .before .before .before .before .before .before .before .redstone-traits .ensures, not-false (c .before .before .before .before .before .before .before .redstone-traits .result .weak) (c .before .before .before .before .before .if1 .left), ← c .before .before .before .before .pos-of .ensures, ← c .before .before .before .over-at .ensures, ← c .before .before .seek .ensures, c .enum-told .given .1)
+returns-2 c = rw (← c .before .before .before .before .before .before .before .redstone-traits .ensures, not-false (c .before .before .before .before .before .before .before .redstone-traits .result .weak) (c .before .before .before .before .before .if1 .left), ← c .before .before .before .before .pos-of .ensures, ← c .before .before .before .over-at .ensures, ← c .before .before .find-by-halves .ensures, c .enum-told .given .1)
 
-under-requires : tie.Need-under-requires
-under-requires c κs = search needs
+dust-to-weak-requires : tie.Need-dust-to-weak-requires
+dust-to-weak-requires c κs = search needs
 
 slot-of-requires : tie.Need-slot-of-requires
 slot-of-requires c κs = search needs
 
 returns-3 : tie.Need-returns-3
 unfolding underAt slotOf
-returns-3 c = rw (← c .before .before .before .before .before .before .before .before .before .before .redstone-traits .ensures, not-false (c .before .before .before .before .before .before .before .before .before .before .redstone-traits .result .weak) (c .before .before .before .before .before .before .before .before .if1 .left), ← c .before .before .before .before .before .before .before .pos-of .ensures, ← c .before .before .before .before .before .before .over-at .ensures, ← c .before .before .before .before .before .seek .ensures, c .before .before .before .j .given .1, ← c .before .under .ensures) (c .slot-of .ensures)
+returns-3 c = rw (← c .before .before .before .before .before .before .before .before .before .before .redstone-traits .ensures, not-false (c .before .before .before .before .before .before .before .before .before .before .redstone-traits .result .weak) (c .before .before .before .before .before .before .before .before .if1 .left), ← c .before .before .before .before .before .before .before .pos-of .ensures, ← c .before .before .before .before .before .before .over-at .ensures, ← c .before .before .before .before .before .find-by-halves .ensures, c .before .before .before .j .given .1, ← c .before .dust-to-weak .ensures) (c .slot-of .ensures)
 
 pub under-at-spec : {M : Type 1} → statement M
 under-at-spec =
@@ -49,10 +49,10 @@ under-at-spec =
     returns
     pos-of-requires
     over-at-requires
-    seek-requires
+    find-by-halves-requires
     enum-known-j
     enum-told
     returns-2
-    under-requires
+    dust-to-weak-requires
     slot-of-requires
     returns-3)

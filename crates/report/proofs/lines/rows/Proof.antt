@@ -5,8 +5,8 @@ use Prim.Native.Nat.{_+_, _*_, _-_, _≤_}
 use native.Mathlib.Nat.{zero-add}
 use native.Mathlib.Omega.{arith}
 use borrow.Author.Needs.{needs}
-use Rattle.columns.specs.Column.{joinedFrom, joined}
-use Rattle.columns.proofs.Parts.{joined-more}
+use Rattle.columns.specs.Column.{concatRowsFrom, concatRows}
+use Rattle.columns.proofs.Parts.{concatRows-more}
 use Rattle.world.specs.Rows.{rows}
 use Rattle.report.specs.Put.{Puts}
 use Rattle.report.specs.Text.{rowOf}
@@ -15,7 +15,7 @@ use Rattle.report.proofs.lines.rows.Statement.{statement}
 use Rattle.report.proofs.lines.rows.Tie as tie
 
 abbrev Inv-loop : tie.InvT-loop
-Inv-loop out₀ at table signal weak strong n end₀ i₀ out end i = (i ≤ n) × (n ≡ rows table) × (end ≤ at + i * 52) × Puts (joined i (rowOf table signal weak strong)) at out₀ out end
+Inv-loop out₀ at table signal weak strong n end₀ i₀ out end i = (i ≤ n) × (n ≡ rows table) × (end ≤ at + i * 52) × Puts (concatRows i (rowOf table signal weak strong)) at out₀ out end
 
 abbrev μ-loop : tie.MeasureT-loop
 μ-loop out₀ at table signal weak strong n end₀ i₀ out end i = n - i
@@ -24,7 +24,7 @@ rows-requires : tie.Need-rows-requires Inv-loop μ-loop
 rows-requires c κs = search needs
 
 loop-holds : tie.Need-loop-holds Inv-loop μ-loop
-unfolding joinedFrom
+unfolding concatRowsFrom
 loop-holds c =
     let a = c .before .before .before .before .before .before .args in
     (omega arith, c .rows .ensures, omega arith, puts-none (a .at) (a .out .now) (omega (arith, c .before .before .before .before .before .before .pre)))
@@ -46,7 +46,7 @@ loop-again c =
     let a = c .before .before .before .before .before .before .before .before .before .before .before .before .args in
     let i = l .loop .i in
     let f = rowOf (a .table .now) (a .signal .now) (a .weak .now) (a .strong .now) in
-    let more : joined (i + 1) f ≡ joined i f ++ f i = joined-more i 0 f ∙ ap (λ k. joined i f ++ f k) (zero-add i) in
+    let more : concatRows (i + 1) f ≡ concatRows i f ++ f i = concatRows-more i 0 f ∙ ap (λ k. concatRows i f ++ f k) (zero-add i) in
     let put = c .before .before .line-of .ensures in
     (omega arith, l .loop .inv .1, omega (arith, put .1, l .loop .inv .2), rw more (puts-then (l .loop .inv .3) (put .0)))
 

@@ -21,7 +21,7 @@ unfolding emptyMap networkOf
 loop-holds c = let q = c .before .before .before .before .before .before .before .before .before .before .before .pre in
     record {
       count = omega arith;
-      going = starts (q .0) (q .1 .0 .0) (q .1 .0 .1);
+      unanswered = starts (q .0) (q .1 .0 .0) (q .1 .0 .1);
       s0-rows = made-rows _ (q .1 .0 .0) refl;
       w0-rows = made-rows _ (q .1 .0 .1) refl;
       s1-rows = q .1 .1 .0;
@@ -63,7 +63,7 @@ same-length-4 c = c .before .before .before .before .before .before .before .bef
 returns : tie.Need-returns Inv-loop μ-loop
 returns c = let l = c .before .before .before .before .before .before .before .before .before .before .before .before .before .before .before .before .before in
     ran-settled
-    (stops (c .before .before .before .before .before .before .before .before .before .before .before .before .before .before .before .before .before .before .before .before .before .before .before .before .before .before .before .before .before .pre .0) (l .loop .inv .going) (l .loop .inv .s0-rows) (c .before .before .before .before .before .before .before .before .before .before .before .before .before .next-signals .ensures) (l .loop .inv .s1-rows) (c .before .before .before .before .before .before .before .before .next-weaks .ensures) (l .loop .inv .w1-rows)
+    (stops (c .before .before .before .before .before .before .before .before .before .before .before .before .before .before .before .before .before .before .before .before .before .before .before .before .before .before .before .before .before .pre .0) (l .loop .inv .unanswered) (l .loop .inv .s0-rows) (c .before .before .before .before .before .before .before .before .before .before .before .before .before .next-signals .ensures) (l .loop .inv .s1-rows) (c .before .before .before .before .before .before .before .before .next-weaks .ensures) (l .loop .inv .w1-rows)
     (c .before .answers .ensures) (c .if1 .taken))
     (omega (arith, l .loop .inv .count, c .before .before .before .before .before .before .before .before .before .before .before .before .before .before .before .before .loop-test .taken))
 
@@ -81,11 +81,11 @@ loop-again c = let l = c .before .before .before .before .before .before .before
     let s1-rows = c .before .before .before .before .before .before .before .before .before .before .before .before .before .before .before .before .before .before .before .before .before .before .before .next-signals .kept .1 .1 .1 .1 .1 .0 ∙ l .loop .inv .s1-rows in
     let w1-rows = c .before .before .before .before .before .before .before .before .before .before .before .before .before .before .before .before .before .before .next-weaks .kept .1 .1 .1 .0 ∙ l .loop .inv .w1-rows in
     let next =
-    goes-on (c .before .before .before .before .before .before .before .before .before .before .before .before .before .before .before .before .before .before .before .before .before .before .before .before .before .before .before .before .before .before .before .before .before .before .before .before .before .before .before .pre .0) (l .loop .inv .going) (l .loop .inv .s0-rows) (c .before .before .before .before .before .before .before .before .before .before .before .before .before .before .before .before .before .before .before .before .before .before .before .next-signals .ensures) (l .loop .inv .s1-rows) (c .before .before .before .before .before .before .before .before .before .before .before .before .before .before .before .before .before .before .next-weaks .ensures) (l .loop .inv .w1-rows)
+    goes-on (c .before .before .before .before .before .before .before .before .before .before .before .before .before .before .before .before .before .before .before .before .before .before .before .before .before .before .before .before .before .before .before .before .before .before .before .before .before .before .before .pre .0) (l .loop .inv .unanswered) (l .loop .inv .s0-rows) (c .before .before .before .before .before .before .before .before .before .before .before .before .before .before .before .before .before .before .before .before .before .before .before .next-signals .ensures) (l .loop .inv .s1-rows) (c .before .before .before .before .before .before .before .before .before .before .before .before .before .before .before .before .before .before .next-weaks .ensures) (l .loop .inv .w1-rows)
     (c .before .before .before .before .before .before .before .before .before .before .before .answers .ensures) (c .before .before .before .before .before .before .before .before .before .before .if1 .left) in
     record {
       count = omega (arith, l .loop .inv .count, c .before .before .before .before .before .before .before .before .before .before .before .before .before .before .before .before .before .before .before .before .before .before .before .before .before .before .loop-test .taken);
-      going = rw (c .before .before .before .before .before .before .before .copy .ensures, c .before .before .copy2 .ensures) next;
+      unanswered = rw (c .before .before .before .before .before .before .before .copy .ensures, c .before .before .copy2 .ensures) next;
       s0-rows = ap length (c .before .before .before .before .before .before .before .copy .ensures) ∙ s1-rows;
       w0-rows = ap length (c .before .before .copy2 .ensures) ∙ w1-rows;
       s1-rows = s1-rows;
@@ -106,7 +106,7 @@ same-length-8 : tie.Need-same-length-8 Inv-loop μ-loop
 same-length-8 c = c .before .loop .inv .w1-rows ∙ sym (c .before .before .before .before .before .before .before .before .before .before .before .before .before .pre .1 .1 .1)
 
 returns-2 : tie.Need-returns-2 Inv-loop μ-loop
-returns-2 c = ran-unsettled (c .before .loop .inv .going) (omega arith)
+returns-2 c = ran-unsettled (c .before .loop .inv .unanswered) (omega arith)
 
 pub run-spec : {M : Type 1} → statement M
 run-spec =

@@ -1,6 +1,6 @@
 -- `sim::run::new_state` meets its contract. Assumes nothing.
 use mathlib.Core.Path.{refl, _∙_}
-use Rattle.sim.proofs.Running.{room-kept}
+use Rattle.sim.proofs.Running.{lengths-kept}
 use Rattle.sim.proofs.Valid.{fresh-devices-valid}
 use Rattle.sim.proofs.States.{fresh-read}
 use borrow.Author.Needs.{needs}
@@ -14,7 +14,7 @@ settle-requires : tie.Need-settle-requires
 settle-requires c κs =
     let s = c .before .before .before .before .before .before .before .before .before .before .before .before .before .before .before in
     let filled = c .before .before .before .before .before .before .fill-fresh-devices in
-    (s .pre .0, rw (filled .ensures) (fresh-devices-valid _), room-kept (s .pre .2) (filled .kept .1 .0) refl refl refl)
+    (s .pre .0, rw (filled .ensures) (fresh-devices-valid _), lengths-kept (s .pre .2) (filled .kept .1 .0) refl refl refl)
 
 fill-fresh-requires : tie.Need-fill-fresh-requires
 fill-fresh-requires c κs = search needs
@@ -38,8 +38,8 @@ returns : tie.Need-returns
 returns c =
     let filled = c .before .before .before .before .before .before .before .before .before .before .before .before .before .before .before .before .before .before .before .fill-fresh-devices .ensures in
     let done = c .before .before .before .before .before .before .before .before .before .before .before .before .settle .ensures in
-    let stands = rw filled at (done .1) in
-    (rw (stands .weaks, stands .strongs) at (c .before .before .fill-fresh .ensures) ∙ fresh-read _ _, (rw filled at (done .0), stands))
+    let holds = rw filled at (done .1) in
+    (rw (holds .weaks, holds .strongs) at (c .before .before .fill-fresh .ensures) ∙ fresh-read _ _, (rw filled at (done .0), holds))
 
 pub new-state-spec : {M : Type 1} → statement M
 new-state-spec =

@@ -1,6 +1,6 @@
 -- `sim::run::settle_state` meets its contract. Assumes nothing.
 use mathlib.Core.Path.{refl}
-use Rattle.sim.proofs.Running.{room-kept, settles}
+use Rattle.sim.proofs.Running.{lengths-kept, settles}
 use borrow.Author.Needs.{needs}
 use Rattle.sim.proofs.run.settle_state.Statement.{statement}
 use Rattle.sim.proofs.run.settle_state.Tie as tie
@@ -12,7 +12,7 @@ settle-requires : tie.Need-settle-requires
 settle-requires c κs =
     let s = c .before .before .before .before .before .before .before .before .before .before .before .before .before .before .before in
     let filled = c .before .before .before .before .before .before .fill-devices in
-    (s .pre .0 .accepted, rw (filled .ensures) (s .pre .0 .valid), room-kept (s .pre .1) (filled .kept .1 .1 .0) refl refl refl)
+    (s .pre .0 .accepted, rw (filled .ensures) (s .pre .0 .valid), lengths-kept (s .pre .1) (filled .kept .1 .1 .0) refl refl refl)
 
 same-length : tie.Need-same-length
 same-length c = search needs

@@ -2,13 +2,13 @@
 use mathlib.Core.Path.{_≡_, sym, _∙_}
 use Prim.Native.Nat.{_-_, _≤_}
 use native.Mathlib.Omega.{arith}
-use Rattle.sim.specs.Running.{Room}
-use Rattle.sim.proofs.Running.{room-kept, ready, Going, going-none, going-valid, going-long, going-more}
+use Rattle.sim.specs.Running.{ColumnLengths}
+use Rattle.sim.proofs.Running.{lengths-kept, ready, Ticking, ticking-none, ticking-valid, ticking-long, ticking-more}
 use Rattle.sim.proofs.run.settle_ticks.Statement.{statement}
 use Rattle.sim.proofs.run.settle_ticks.Tie as tie
 
 abbrev Inv-loop : tie.InvT-loop
-Inv-loop profile table count state₀ devices₀ signal₀ weak₀ strong₀ rounds₀ done₀ state devices signal weak strong rounds done = (done ≤ count) × Room table devices signal weak strong × Going done profile table state₀ state devices signal weak strong rounds
+Inv-loop profile table count state₀ devices₀ signal₀ weak₀ strong₀ rounds₀ done₀ state devices signal weak strong rounds done = (done ≤ count) × ColumnLengths table devices signal weak strong × Ticking done profile table state₀ state devices signal weak strong rounds
 
 abbrev μ-loop : tie.MeasureT-loop
 μ-loop profile table count state₀ devices₀ signal₀ weak₀ strong₀ rounds₀ done₀ state devices signal weak strong rounds done = count - done
@@ -19,13 +19,13 @@ settle-state-requires c κs = let s = c .before .before .before .before .before 
 loop-holds : tie.Need-loop-holds Inv-loop μ-loop
 loop-holds c =
     let call = c .before .before .before .before .before .before .before .before .settle-state in
-    (omega arith, room-kept (c .before .before .before .before .before .before .before .before .before .before .before .before .before .before .before .before .before .before .before .before .before .pre .2) (call .kept .1 .1 .1 .0) (call .kept .1 .1 .1 .1 .0) (call .kept .1 .1 .1 .1 .1 .0) (call .kept .1 .1 .1 .1 .1 .1 .0), going-none (call .ensures .0) (call .ensures .1))
+    (omega arith, lengths-kept (c .before .before .before .before .before .before .before .before .before .before .before .before .before .before .before .before .before .before .before .before .before .pre .2) (call .kept .1 .1 .1 .0) (call .kept .1 .1 .1 .1 .0) (call .kept .1 .1 .1 .1 .1 .0) (call .kept .1 .1 .1 .1 .1 .1 .0), ticking-none (call .ensures .0) (call .ensures .1))
 
 advance-tick-requires : tie.Need-advance-tick-requires Inv-loop μ-loop
 advance-tick-requires c κs =
     let l = c .before .before .before .before .before .before in
     let s = c .before .before .before .before .before .before .before .before .before .before .before .before .before .before .before .before .before .before .before .before .before .before .before .before .before .before .before .before in
-    ((s .pre .0, going-valid (l .loop .inv .2) (s .pre .1)), (l .loop .inv .1, l .loop .inv .2 .columns))
+    ((s .pre .0, ticking-valid (l .loop .inv .2) (s .pre .1)), (l .loop .inv .1, l .loop .inv .2 .columns))
 
 add-done : tie.Need-add-done Inv-loop μ-loop
 add-done c = let l = c .before .before .before .before .before .before .before .before .before .before .before .before .before .before .before .before .before in omega (arith, l .loop .inv .0, c .before .before .before .before .before .before .before .before .before .before .before .before .before .before .before .before .loop-test .taken, c .before .before .before .before .before .before .before .before .before .before .before .before .before .before .before .before .before .before .before .before .before .before .before .before .before .before .before .before .before .before .before .before .before .before .before .before .before .before .before .fits .count)
@@ -38,10 +38,10 @@ loop-again c =
     let l = c .before .before .before .before .before .before .before .before .before .before .before .before .before .before .before .before .before in
     let call = c .before .before .before .before .before .before .before .before .before .before .advance-tick in
     let next = call .ensures in
-    (omega (arith, c .before .before .before .before .before .before .before .before .before .before .before .before .before .before .before .before .loop-test .taken), room-kept (l .loop .inv .1) (call .kept .1 .1 .1 .0) (call .kept .1 .1 .1 .1 .0) (call .kept .1 .1 .1 .1 .1 .0) (call .kept .1 .1 .1 .1 .1 .1 .0), going-more (l .loop .inv .2) (record { state = next .0; rounds = next .1 .0; columns = next .1 .1 }))
+    (omega (arith, c .before .before .before .before .before .before .before .before .before .before .before .before .before .before .before .before .loop-test .taken), lengths-kept (l .loop .inv .1) (call .kept .1 .1 .1 .0) (call .kept .1 .1 .1 .1 .0) (call .kept .1 .1 .1 .1 .1 .0) (call .kept .1 .1 .1 .1 .1 .1 .0), ticking-more (l .loop .inv .2) (record { state = next .0; rounds = next .1 .0; columns = next .1 .1 }))
 
 same-length : tie.Need-same-length Inv-loop μ-loop
-same-length c = going-long (c .before .loop .inv .2) (c .before .before .before .before .before .before .before .before .before .before .before .before .before .before .before .before .before .before .before .before .before .before .before .pre .1)
+same-length c = ticking-long (c .before .loop .inv .2) (c .before .before .before .before .before .before .before .before .before .before .before .before .before .before .before .before .before .before .before .before .before .before .before .pre .1)
 
 same-length-2 : tie.Need-same-length-2 Inv-loop μ-loop
 same-length-2 c = c .before .loop .inv .1 .device-rows ∙ sym (c .before .before .before .before .before .before .before .before .before .before .before .before .before .before .before .before .before .before .before .before .before .before .before .pre .2 .device-rows)

@@ -1,6 +1,6 @@
 -- `solver::prepare::prepare` meets its contract. Assumes nothing.
 use borrow.Author.Needs.{needs}
-use Rattle.solver.proofs.Preparing.{made}
+use Rattle.solver.proofs.Preparing.{prepared-from}
 use Rattle.solver.proofs.prepare.prepare.Statement.{statement}
 use Rattle.solver.proofs.prepare.prepare.Tie as tie
 
@@ -45,7 +45,7 @@ same-length-6 c = search needs
 
 returns : tie.Need-returns
 returns c = let (accepted, room) = c .before .before .before .before .before .before .before .before .before .before .before .before .before .before .before .before .before .before .before .before .before .before .before .before .before .before .before .before .before .before .before .before .before .before .before .before .before .before .pre in
-    made (c .before .before .before .before .before .before .before .before .before .before .before .before .before .before .before .before .before .before .before .before .before .before .before .before .before .before .before .before .before .before .before .before .before .before .before .before .before .before .args .profile .now) (c .before .before .before .before .before .before .before .before .before .before .before .before .before .before .before .before .before .before .before .before .before .before .before .before .before .before .before .before .before .before .before .before .before .before .before .before .before .before .args .devices .now) accepted room (c .before .before .before .before .before .before .before .before .before .before .before .before .before .before .before .before .before .before .before .before .before .before .before .before .before .before .before .fill-emitted .ensures) (c .before .before .before .before .before .before .before .before .before .before .before .before .before .before .before .before .before .before .before .before .before .before .fill-arriving .ensures) (c .before .before .before .before .before .before .before .before .before .before .before .before .before .before .before .before .before .fill-arriving2 .ensures)
+    prepared-from (c .before .before .before .before .before .before .before .before .before .before .before .before .before .before .before .before .before .before .before .before .before .before .before .before .before .before .before .before .before .before .before .before .before .before .before .before .before .before .args .profile .now) (c .before .before .before .before .before .before .before .before .before .before .before .before .before .before .before .before .before .before .before .before .before .before .before .before .before .before .before .before .before .before .before .before .before .before .before .before .before .before .args .devices .now) accepted room (c .before .before .before .before .before .before .before .before .before .before .before .before .before .before .before .before .before .before .before .before .before .before .before .before .before .before .before .fill-emitted .ensures) (c .before .before .before .before .before .before .before .before .before .before .before .before .before .before .before .before .before .before .before .before .before .before .fill-arriving .ensures) (c .before .before .before .before .before .before .before .before .before .before .before .before .before .before .before .before .before .fill-arriving2 .ensures)
     (c .before .before .before .before .before .before .before .before .before .before .before .fill-direct .ensures) (c .before .before .before .before .before .before .before .fill-feeders .ensures) (c .before .before .before .fill-unders .ensures) (c .unmapped .ensures)
 
 pub prepare-spec : {M : Type 1} → statement M

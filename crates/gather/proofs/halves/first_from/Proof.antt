@@ -1,4 +1,4 @@
--- `gather::seek::first_from` meets its contract. The loop's invariant: the halvings that are left lead to the same row. Assumes nothing.
+-- `gather::halves::first_from` meets its contract. The loop's invariant: the halvings that are left lead to the same row. Assumes nothing.
 use borrow.Author.Needs.{needs}
 use mathlib.Core.Path.{_≡_, sym, _∙_}
 use mathlib.Core.Bool.{true, false}
@@ -7,10 +7,10 @@ use Prim.Native.Nat.{_-_, _≤_}
 use native.Mathlib.Omega.{arith}
 use Rattle.places.specs.Places.{before}
 use Rattle.world.specs.Rows.{rows, posOf}
-use Rattle.gather.specs.Seek.{middle, halvings, halved}
-use Rattle.gather.proofs.Seeking.{halved-low, halved-high, halved-none, halved-over}
-use Rattle.gather.proofs.seek.first_from.Statement.{statement}
-use Rattle.gather.proofs.seek.first_from.Tie as tie
+use Rattle.gather.specs.Halves.{middle, halvings, halved}
+use Rattle.gather.proofs.Halving.{halved-low, halved-high, halved-none, halved-over}
+use Rattle.gather.proofs.halves.first_from.Statement.{statement}
+use Rattle.gather.proofs.halves.first_from.Tie as tie
 
 abbrev Inv-loop : tie.InvT-loop
 Inv-loop table q lo₀ hi₀ step₀ lo hi step = (step ≤ halvings)

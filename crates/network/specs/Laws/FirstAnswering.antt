@@ -1,5 +1,5 @@
 -- The first round that answers is found by trying one after the other.
--- Assumes nothing.
+-- Proved laws: nobody has to believe them, or read them to know what is promised. Assumes nothing.
 use mathlib.Core.Path.{_≡_, refl, sym, _∙_}
 use mathlib.Core.Bool.{Bool, true, false, false≢true}
 use mathlib.Core.Logic.{⊎-elim}
@@ -22,25 +22,25 @@ module _ (N : Network) (e : Column) where
   none-more k n f j a = ⊎-elim (λ p. absurd (n (rw (← p) at a))) (λ h. h) (eq-or-lt-of-le (f j a))
 
   -- the first round to answer after the k rounds that left t, of at most l more
-  unfoldable pub seek : ℕ → State → ℕ → ℕ
-  seek zero t k = k
-  seek (suc l) t k = let u = round N e t in elim (sameState u t) [ true ↦ suc k | false ↦ seek l u (suc k) ]
+  unfoldable pub firstAnsweringFrom : ℕ → State → ℕ → ℕ
+  firstAnsweringFrom zero t k = k
+  firstAnsweringFrom (suc l) t k = let u = round N e t in elim (sameState u t) [ true ↦ suc k | false ↦ firstAnsweringFrom l u (suc k) ]
 
   -- it is found, where round m answers and l more rounds reach m
-  seek-first : (l k m : ℕ) → Answers N e m → m ≤ l + k → ((j : ℕ) → Answers N e j → k < j) → Rounds N e (seek l (after N e k) k)
-  unfolding after seek
+  seek-first : (l k m : ℕ) → Answers N e m → m ≤ l + k → ((j : ℕ) → Answers N e j → k < j) → Rounds N e (firstAnsweringFrom l (after N e k) k)
+  unfolding after firstAnsweringFrom
   seek-first zero k m a h f = absurd (omega (arith, f m a))
   seek-first (suc l) k m a h f = go (sameState (after N e (suc k)) (after N e k)) refl (λ g. seek-first l (suc k) m a (omega arith) g)
     where
       go : (b : Bool) → sameState (after N e (suc k)) (after N e k) ≡ b
-          → (((j : ℕ) → Answers N e j → suc k < j) → Rounds N e (seek l (after N e (suc k)) (suc k))) → Rounds N e (seek (suc l) (after N e k) k)
-      go true p r = rw (seek, p) (record { answers = same-state _ _ p; least = f })
-      go false p r = rw (seek, p) (r (none-more k (λ q. absurd (false≢true (sym p ∙ state-same _ _ q))) f))
+          → (((j : ℕ) → Answers N e j → suc k < j) → Rounds N e (firstAnsweringFrom l (after N e (suc k)) (suc k))) → Rounds N e (firstAnsweringFrom (suc l) (after N e k) k)
+      go true p r = rw (firstAnsweringFrom, p) (record { answers = same-state _ _ p; least = f })
+      go false p r = rw (firstAnsweringFrom, p) (r (none-more k (λ q. absurd (false≢true (sym p ∙ state-same _ _ q))) f))
 
   -- round 17 answers, so 17 rounds are enough
-  unfoldable pub sought : ℕ
-  sought = seek 17 (start N e) 0
+  unfoldable pub firstAnswering : ℕ
+  firstAnswering = firstAnsweringFrom 17 (start N e) 0
 
-  pub sought-first : Rounds N e sought
-  unfolding sought after
-  sought-first = seek-first 17 0 17 (seventeen N e) (omega arith) none-yet
+  pub firstAnswering-first : Rounds N e firstAnswering
+  unfolding firstAnswering after
+  firstAnswering-first = seek-first 17 0 17 (seventeen N e) (omega arith) none-yet

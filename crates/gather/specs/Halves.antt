@@ -1,4 +1,4 @@
--- The look-up by halves. On an accepted table, whose rows are in order, it answers what `find` does (`sought-is`).
+-- The look-up by halves. On an accepted table, whose rows are in order, it answers what `find` does (`byHalves-is`).
 -- Assumes nothing.
 use mathlib.Core.Bool.{cond, _&&_}
 use Prim.Native.Nat.{ℕ, zero, suc, _+_, _/_}
@@ -26,7 +26,7 @@ abbrev pub halvings : ℕ
 halvings = 11
 
 -- the row found at q
-unfoldable pub sought : Bytes → Pos → Found
-sought t q =
+unfoldable pub findByHalves : Bytes → Pos → Found
+findByHalves t q =
     let i = halved t q halvings 0 (rows t) in
     cond (ltb i (rows t) && samePos (posOf t i) q) (At i) Nothing

@@ -5,7 +5,7 @@ use world::row::pos_of;
 use world::row::rows;
 ghost use mathlib.Core.Path.{_≡_};
 ghost use Rattle.world.specs.Rows.{rows as rowsOf};
-ghost use Rattle.gather.specs.Seek.{halvings, halved, sought};
+ghost use Rattle.gather.specs.Halves.{halvings, halved, findByHalves};
 
 // Enough for 1,024 rows.
 const HALVINGS: u32 = 11;
@@ -32,8 +32,8 @@ fn first_from(table: &[u8], q: Pos) -> usize
 }
 
 // The row that stands at a position.
-pub fn seek(table: &[u8], q: Pos) -> Found
-    ensures { λ r. ⌜ r ≡ sought (now (table .entry)) q ⌝ }
+pub fn find_by_halves(table: &[u8], q: Pos) -> Found
+    ensures { λ r. ⌜ r ≡ findByHalves (now (table .entry)) q ⌝ }
 {
     let i = first_from(table, q);
     if (i < rows(table)) & pos_of(table, i).same(q) {

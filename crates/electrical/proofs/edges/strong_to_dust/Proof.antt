@@ -1,17 +1,17 @@
--- `electrical::edges::drives` meets its contract. Assumes nothing.
+-- `electrical::edges::strong_to_dust` meets its contract. Assumes nothing.
 use mathlib.Core.Path.{sym, _∙_}
 use mathlib.Core.Bool.{and-assoc}
 use borrow.Author.Tests.{eq-eqb, ne-eqb}
-use Rattle.electrical.specs.Edges.{drives}
+use Rattle.electrical.specs.Edges.{strongToDust}
 use borrow.Author.Needs.{needs}
-use Rattle.electrical.proofs.edges.drives.Statement.{statement}
-use Rattle.electrical.proofs.edges.drives.Tie as tie
+use Rattle.electrical.proofs.edges.strong_to_dust.Statement.{statement}
+use Rattle.electrical.proofs.edges.strong_to_dust.Tie as tie
 
 kind-of-requires : tie.Need-kind-of-requires
 kind-of-requires c κs = search needs
 
 returns : tie.Need-returns
-unfolding drives
+unfolding strongToDust
 returns c = rw (← c .before .kind-of .ensures, ne-eqb _ 3 (c .if1 .taken))
 
 feeds-requires : tie.Need-feeds-requires
@@ -24,17 +24,17 @@ touches-requires : tie.Need-touches-requires
 touches-requires c κs = search needs
 
 returns-2 : tie.Need-returns-2
-unfolding drives
+unfolding strongToDust
 returns-2 c =
     rw (eq-eqb _ 3 (sym (c .before .before .before .before .before .before .kind-of .ensures) ∙ c .before .before .before .before .before .if1 .left), ← c .before .before .before .before .feeds .ensures, ← c .before .before .before .redstone-traits .ensures, ← and-assoc, c .before .if2 .taken) (c .touches .ensures)
 
 returns-3 : tie.Need-returns-3
-unfolding drives
+unfolding strongToDust
 returns-3 c =
     rw (eq-eqb _ 3 (sym (c .before .before .before .before .before .kind-of .ensures) ∙ c .before .before .before .before .if1 .left), ← c .before .before .before .feeds .ensures, ← c .before .before .redstone-traits .ensures, ← and-assoc, c .if2 .left)
 
-pub drives-spec : {M : Type 1} → statement M
-drives-spec =
+pub strong-to-dust-spec : {M : Type 1} → statement M
+strong-to-dust-spec =
     tie.close
     (tie.spec
     kind-of-requires

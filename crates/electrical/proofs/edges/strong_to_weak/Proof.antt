@@ -1,8 +1,8 @@
--- `electrical::edges::through` meets its contract. Assumes nothing.
-use Rattle.electrical.specs.Edges.{through}
+-- `electrical::edges::strong_to_weak` meets its contract. Assumes nothing.
+use Rattle.electrical.specs.Edges.{strongToWeak}
 use borrow.Author.Needs.{needs}
-use Rattle.electrical.proofs.edges.through.Statement.{statement}
-use Rattle.electrical.proofs.edges.through.Tie as tie
+use Rattle.electrical.proofs.edges.strong_to_weak.Statement.{statement}
+use Rattle.electrical.proofs.edges.strong_to_weak.Tie as tie
 
 redstone-traits-requires : tie.Need-redstone-traits-requires
 redstone-traits-requires c κs = search needs
@@ -17,16 +17,16 @@ is-adjacent-requires : tie.Need-is-adjacent-requires
 is-adjacent-requires c κs = search needs
 
 returns : tie.Need-returns
-unfolding through
+unfolding strongToWeak
 returns c =
     rw (← c .before .before .before .before .redstone-traits .ensures, c .before .before .before .if1 .taken, ← c .before .before .pos-of .ensures, ← c .before .pos-of2 .ensures) (c .is-adjacent .ensures)
 
 returns-2 : tie.Need-returns-2
-unfolding through
+unfolding strongToWeak
 returns-2 c = rw (← c .before .redstone-traits .ensures, c .if1 .left)
 
-pub through-spec : {M : Type 1} → statement M
-through-spec =
+pub strong-to-weak-spec : {M : Type 1} → statement M
+strong-to-weak-spec =
     tie.close
     (tie.spec
     redstone-traits-requires

@@ -12,13 +12,13 @@ use Rattle.electrical.specs.Emitted as Emitted
 use Rattle.rounds.specs.Prepared.{Prepared}
 
 -- Of the table t with the device column d, under the profile p: the emitted levels, the strong power and the prepared columns.
-pub record Made (p t : Bytes) (d emitted charged base direct feeders unders : Column) (empty : Bool) : Type 0 where
+pub record PreparedFrom (p t : Bytes) (d emitted charged base direct feeders unders : Column) (empty : Bool) : Type 0 where
   pub emitted-is : emitted ≡ Emitted.emitted t d
   pub charged-is : charged ≡ strongOf (networkOf p t) emitted
   pub prepared : Prepared p t emitted base direct feeders unders empty
 
 -- Room for those columns of the table t.
-pub record Room (t : Bytes) (emitted charged base direct feeders unders : Column) : Type 0 where
+pub record PreparedLengths (t : Bytes) (emitted charged base direct feeders unders : Column) : Type 0 where
   pub emitted-rows : length emitted ≡ rows t
   pub charged-rows : length charged ≡ rows t
   pub base-rows : length base ≡ rows t

@@ -1,9 +1,9 @@
--- `electrical::edges::is_held_by` meets its contract. Assumes nothing.
+-- `electrical::edges::is_support_of` meets its contract. Assumes nothing.
 use mathlib.Core.Path.{sym, _∙_}
-use Rattle.electrical.specs.Edges.{isHeldBy}
+use Rattle.electrical.specs.Edges.{isSupportOf}
 use borrow.Author.Needs.{needs}
-use Rattle.electrical.proofs.edges.is_held_by.Statement.{statement}
-use Rattle.electrical.proofs.edges.is_held_by.Tie as tie
+use Rattle.electrical.proofs.edges.is_support_of.Statement.{statement}
+use Rattle.electrical.proofs.edges.is_support_of.Tie as tie
 
 kind-of-requires : tie.Need-kind-of-requires
 kind-of-requires c κs = search needs
@@ -21,16 +21,16 @@ is-at-requires : tie.Need-is-at-requires
 is-at-requires c κs = search needs
 
 returns : tie.Need-returns
-unfolding isHeldBy
+unfolding isSupportOf
 returns c =
     rw (← c .before .before .before .before .before .kind-of .ensures, sym (c .before .before .before .before .is-switch .ensures) ∙ c .before .before .before .if1 .taken, ← c .before .before .support-pos .ensures, ← c .before .pos-of .ensures) (c .is-at .ensures)
 
 returns-2 : tie.Need-returns-2
-unfolding isHeldBy
+unfolding isSupportOf
 returns-2 c = rw (← c .before .before .kind-of .ensures, sym (c .before .is-switch .ensures) ∙ c .if1 .left)
 
-pub is-held-by-spec : {M : Type 1} → statement M
-is-held-by-spec =
+pub is-support-of-spec : {M : Type 1} → statement M
+is-support-of-spec =
     tie.close
     (tie.spec
     kind-of-requires

@@ -125,11 +125,11 @@ module _ (a : Answer) (next : Name) {M : Type 1} (𝓤 : URA M) (H : Heap 𝓤) 
 
   -- from the theorem of the look-up over the reader to the function's own, over the environment that it is defined in
   module _ (𝓜 : Model 𝓤 H) (𝓖 : GhostRules 𝓤 H) (𝓡 : Running 𝓤 H 𝓜) (env : Env) (key : Name) where
-    pub made-spec : Closed 𝓤 H (tables 𝓤 H 𝓜 𝓡 env .C) (tables 𝓤 H 𝓜 𝓡 env .Λ) key (made (a .mir) next) → env #new ≡ new-def.routine
+    pub plain-spec : Closed 𝓤 H (tables 𝓤 H 𝓜 𝓡 env .C) (tables 𝓤 H 𝓜 𝓡 env .Λ) key (made (a .mir) next) → env #new ≡ new-def.routine
         → (r : Routine) → env next ≡ r → Triple 𝓤 (𝓡 .run r) (LookUp held a 𝓤 H (𝓖 .A))
         → (E : Ensures lent a 𝓤 H (𝓖 .A)) → Shown lent a 𝓤 H (𝓖 .A) E → Triple 𝓤 (tables 𝓤 H 𝓜 𝓡 env .C key) (Stated lent a 𝓤 H (𝓖 .A) E)
     unfolding tablesOf
-    made-spec closed new-is r is met =
+    plain-spec closed new-is r is met =
         closes lent a 𝓤 H 𝓜 𝓖 𝓡 env key (made (a .mir) next) closed
         (λ κ q s p. walk (𝓖 .A) (givenOf 𝓤 H 𝓜 𝓖) (𝓜 .mem) (𝓡 .run) κ q s p (tables 𝓤 H 𝓜 𝓡 env .C) (tables 𝓤 H 𝓜 𝓡 env .Λ) (fmOf 𝓤 H (givenOf 𝓤 H 𝓜 𝓖 .laws) (tablesOf 𝓤 H 𝓜 (tables 𝓤 H 𝓜 𝓡 env)))
         (cited 𝓤 H (New (𝓖 .A) (givenOf 𝓤 H 𝓜 𝓖) (𝓜 .mem) (𝓡 .run)) 𝓜 𝓡 env #new new-def.routine new-is (new-thm.met 𝓤 H 𝓜 𝓖 𝓡))

@@ -22,7 +22,7 @@ use Rattle.world.specs.Find.{find}
 use Rattle.world.proofs.Finding.{found-stands}
 use Rattle.refusals.specs.Accepted.{Table}
 use Rattle.refusals.proofs.Accepted.{later-after, find-at}
-use Rattle.gather.specs.Seek.{middle, halved, halvings, sought}
+use Rattle.gather.specs.Halves.{middle, halved, halvings, findByHalves}
 
 -- ---- one turn, with so many halvings left
 
@@ -123,9 +123,9 @@ module _ (t : Bytes) (a : Table t) (q : Pos) where
           (λ n. absurd (false≢true (sym (w .high i (omega arith) (omega arith)) ∙ (rw e at (later-after t a i k n l)))))
           (λ n. omega arith))
 
-  pub sought-is : sought t q ≡ find t q
-  unfolding sought
-  sought-is = go (halved t q halvings 0 (rows t)) stands-there
+  pub byHalves-is : findByHalves t q ≡ find t q
+  unfolding findByHalves
+  byHalves-is = go (halved t q halvings 0 (rows t)) stands-there
     where
       go : (i : ℕ) → ((k : ℕ) → k < rows t → posOf t k ≡ q → k ≡ i) → cond (ltb i (rows t) && samePos (posOf t i) q) (At i) Nothing ≡ find t q
       go i only = by (ltb i (rows t) && samePos (posOf t i) q) refl
