@@ -1,0 +1,94 @@
+//! Rows laid out by layer: what stands where, for pictures.
+
+use std::collections::BTreeMap;
+use std::ops::RangeInclusive;
+
+use redstone::Row;
+
+use crate::name::Position;
+
+/// Layers share one extent as long as their cells are no more than this.
+const MOST_SHARED_CELLS: i64 = 20_000;
+/// Rows of a layer that are farther apart than this on both sides of a gap stand in pictures of their own.
+const WIDEST_GAP: i32 = 6;
+
+/// A picture's part of a layer: the rows with one y whose x and z lie in an extent.
+#[derive(Clone, Debug, Eq, PartialEq)]
+pub struct Layer {
+    /// The height.
+    pub y: i32,
+    /// From West to East.
+    pub xs: RangeInclusive<i32>,
+    /// From North to South.
+    pub zs: RangeInclusive<i32>,
+    /// The number of the row at x and z.
+    cells: BTreeMap<(i32, i32), usize>,
+}
+
+impl Layer {
+    fn new(y: i32, rows: &[(Position, usize)]) -> Self {
+        let cells = rows.iter().map(|&([x, _, z], number)| ((x, z), number)).collect();
+        let positions = || rows.iter().map(|(position, _)| *position);
+        Self { y, xs: range(positions().map(|[x, ..]| x)), zs: range(positions().map(|[.., z]| z)), cells }
+    }
+
+    /// The number of the row at x and z.
+    #[must_use]
+    pub fn row_at(&self, x: i32, z: i32) -> Option<usize> {
+        self.cells.get(&(x, z)).copied()
+    }
+
+    /// The rows, by x and then z.
+    pub fn rows(&self) -> impl Iterator<Item = ((i32, i32), usize)> {
+        self.cells.iter().map(|(place, number)| (*place, *number))
+    }
+}
+
+/// The layers of rows, from the lowest to the highest. They have one extent, unless that makes too large a picture: then
+/// each has its own, and parts that are far apart have one each.
+#[must_use]
+pub fn layers(rows: &[Row]) -> Vec<Layer> {
+    let mut by_height = BTreeMap::<i32, Vec<_>>::new();
+    for (number, row) in rows.iter().enumerate() {
+        by_height.entry(row.position()[1]).or_default().push((row.position(), number));
+    }
+    let positions = || rows.iter().map(Row::position);
+    let (xs, zs) = (range(positions().map(|[x, ..]| x)), range(positions().map(|[.., z]| z)));
+    let cells = width(&xs) * width(&zs) * by_height.len() as i64;
+    if cells <= MOST_SHARED_CELLS {
+        let shared =
+            |(y, rows): (i32, Vec<_>)| Layer { xs: xs.clone(), zs: zs.clone(), ..Layer::new(y, &rows) };
+        return by_height.into_iter().map(shared).collect();
+    }
+    let parts =
+        by_height.into_iter().flat_map(|(y, rows)| parts(rows).into_iter().map(move |part| (y, part)));
+    parts.map(|(y, part)| Layer::new(y, &part)).collect()
+}
+
+/// The parts of a layer between which there is a wide gap along x or along z.
+fn parts(rows: Vec<(Position, usize)>) -> Vec<Vec<(Position, usize)>> {
+    for axis in [0, 2] {
+        let split = split_at_gaps(&rows, axis);
+        if split.len() > 1 {
+            return split.into_iter().flat_map(parts).collect();
+        }
+    }
+    vec![rows]
+}
+
+fn split_at_gaps(rows: &[(Position, usize)], axis: usize) -> Vec<Vec<(Position, usize)>> {
+    let mut sorted = rows.to_vec();
+    sorted.sort_by_key(|(position, _)| position[axis]);
+    let is_near =
+        |one: &(Position, usize), next: &(Position, usize)| next.0[axis] - one.0[axis] <= WIDEST_GAP;
+    sorted.chunk_by(is_near).map(<[_]>::to_vec).collect()
+}
+
+fn width(range: &RangeInclusive<i32>) -> i64 {
+    i64::from(*range.end()) - i64::from(*range.start()) + 1
+}
+
+/// From the least to the largest; of none, one cell.
+fn range(numbers: impl Iterator<Item = i32> + Clone) -> RangeInclusive<i32> {
+    numbers.clone().min().unwrap_or(0)..=numbers.max().unwrap_or(0)
+}
