@@ -5,44 +5,31 @@ use differential::generate::{self, BENCH_PROFILE, Case};
 use differential::oracle::{Oracle, pos};
 use differential::probe::{Probe, probe_find};
 use differential::redstone::{Call, Input, STATE, device_outputs, fresh_devices, pack};
-use differential::refusals::STATE_BYTES;
-use differential::table::{self, Position, Row, kind};
+use differential::table::Position;
 use original::electrical::solve_instantaneous;
 use original::sim::RedstoneTickSimulator;
-use redstone::{Columns, fresh, settle, switch, tick};
+use redstone::{Columns, Kind, Row, STATE_BYTES, fresh, settle, switch, tick};
 
 use crate::timing::{Medians, medians};
 
 pub fn cases() -> Vec<Case> {
     let dense = (0..).map(generate::case).find(|case| case.sort == "1,024 rows");
     vec![
-        line("15 dust in line, 31 rows", 15),
-        line("511 dust in line, 1,023 rows", 511),
+        Case::line("15 dust in line, 31 rows", 15),
+        Case::line("511 dust in line, 1,023 rows", 511),
         Case {
             sort: "dense, 1,024 rows",
-            ..with_bench_profile(dense.expect("some seed has such a table").table)
+            profile: BENCH_PROFILE.into(),
+            ..dense.expect("some seed has such a table")
         },
-        Case { sort: "no rows", ..with_bench_profile(Vec::new()) },
+        Case::new("no rows", BENCH_PROFILE, []),
     ]
-}
-
-fn with_bench_profile(table: Vec<u8>) -> Case {
-    Case { seed: 0, sort: "", profile: BENCH_PROFILE.into(), table }
-}
-
-/// Test 4 of the book, with as many dust.
-fn line(sort: &'static str, dust: i32) -> Case {
-    let mut rows = vec![Row::new([0, 1, 0], kind::REDSTONE_BLOCK)];
-    for x in 1..=dust {
-        rows.extend([Row::new([x, 0, 0], kind::SOLID), Row::new([x, 1, 0], kind::DUST)]);
-    }
-    Case { sort, ..with_bench_profile(table::encode(&rows)) }
 }
 
 /// A switch's position, or else the first row's.
 fn switched(rows: &[Row]) -> Position {
-    let lever = rows.iter().find(|row| row.kind == kind::LEVER);
-    lever.or(rows.first()).map_or([0; 3], |row| row.position)
+    let lever = rows.iter().find(|row| row.kind() == Kind::Lever);
+    lever.or(rows.first()).map_or([0; 3], Row::position)
 }
 
 pub fn assert_sides_agree(case: &Case) {
@@ -150,7 +137,7 @@ fn of_switch(oracle: &Oracle) -> Medians {
 fn of_look_up(oracle: &Oracle) -> Medians {
     let table = &oracle.case.table;
     let world = oracle.world();
-    let mut positions: Vec<_> = oracle.rows.iter().map(|row| row.position).collect();
+    let mut positions: Vec<_> = oracle.rows.iter().map(Row::position).collect();
     positions.extend(oracle.rows.is_empty().then_some([0; 3]));
     let (mut originals, mut proved) = (positions.iter().cycle(), positions.iter().cycle());
     medians(

@@ -4,9 +4,10 @@ use std::collections::BTreeMap;
 use std::fmt::{self, Debug, Display, Formatter};
 use std::io::Write;
 
+use redstone::ROW_BYTES;
+
 use crate::generate::Case;
 use crate::refusals::REFUSED;
-use crate::table::ROW_BYTES;
 
 /// What a function returns, and the buffers lent to it as they come back.
 #[derive(Clone, Debug, Eq, PartialEq)]

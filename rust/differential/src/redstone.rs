@@ -9,14 +9,14 @@ mod state;
 use original::electrical::{InstantaneousElectricalState, PoweredBlockState, solve_instantaneous};
 use original::sim::{RedstoneTickSimulator, TickState};
 use original::world::World;
-use redstone::{Columns, Rounds};
+use redstone::{Columns, ROW_BYTES, Rounds, STATE_BYTES};
 
 use crate::compare::{Answer, Answers, Compared, Lent, Query, Tally, compare};
 use crate::generate::Case;
 use crate::oracle::{Oracle, pos};
 use crate::probe::Probe;
-use crate::refusals::{self, Refusal, STATE_BYTES};
-use crate::table::{Position, ROW_BYTES};
+use crate::refusals::{self, Refusal};
+use crate::table::Position;
 
 pub use alterations::ALTERATIONS;
 pub use edges::{edges, single_bytes};
@@ -208,7 +208,7 @@ impl Oracle<'_> {
     }
 
     fn write_columns(&self, settled: &InstantaneousElectricalState, [signal, weak, strong]: [&mut [u8]; 3]) {
-        for (row, at) in self.rows.iter().map(|row| pos(row.position)).enumerate() {
+        for (row, at) in self.rows.iter().map(|row| pos(row.position())).enumerate() {
             signal[row] = settled.signal(at);
             PoweredBlockState { weak: weak[row], strong: strong[row] } = settled.power(at);
         }

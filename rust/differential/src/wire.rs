@@ -10,15 +10,16 @@ use original::wire::{
     update_wire_shapes,
 };
 use original::world::{Facing, WireConnection, World};
+use redstone::{Arm, Row};
 
 use crate::compare::{Answer, Answers, Compared, Lent, Query, Tally, compare};
 use crate::generate::Case;
-use crate::oracle::{Oracle, connection_number, facing, pos};
+use crate::oracle::{Oracle, arm, connection_number, facing, pos};
 use crate::probe::{
     Probe, probe_component_connects, probe_infer, probe_redraw, probe_resolved, probe_transfer,
 };
 use crate::refusals::Refusal;
-use crate::table::{self, Position, Row};
+use crate::table::Position;
 
 pub use alterations::ALTERATIONS;
 pub use queries::queries;
@@ -100,20 +101,19 @@ impl Oracle<'_> {
         self.refusal?;
         let mut world = self.world().clone();
         update_wire_shapes(&mut world);
-        let redrawn: Vec<_> = self.rows.iter().map(|row| redrawn(&world, row)).collect();
-        table.copy_from_slice(&table::encode(&redrawn));
+        table.copy_from_slice(&redstone::table(self.rows.iter().map(|row| redrawn(&world, row))));
         Ok(0)
     }
 }
 
 /// A row with the arms that its block has now.
 fn redrawn(world: &World, row: &Row) -> Row {
-    let block = world.get(pos(row.position)).expect("the row's own block");
-    Row { arms: block.wire_connections.as_ref().map(arms), ..row.clone() }
+    let block = world.get(pos(row.position())).expect("the row's own block");
+    row.with_arms(block.wire_connections.as_ref().map(arms))
 }
 
-fn arms(connections: &BTreeMap<Facing, WireConnection>) -> [u8; 4] {
-    HORIZONTAL.map(|facing| connections.get(&facing).map_or(0, |arm| connection_number(*arm) as u8))
+fn arms(connections: &BTreeMap<Facing, WireConnection>) -> [Option<Arm>; 4] {
+    HORIZONTAL.map(|facing| connections.get(&facing).map(|connection| arm(*connection)))
 }
 
 fn horizontal(number: u32) -> Facing {

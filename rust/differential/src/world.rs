@@ -5,6 +5,7 @@ mod queries;
 
 use original::blocks::behavior_profile;
 use original::world::{Block, BlockKind, BlockRedstoneTraits, Facing, OccupiedShape};
+use redstone::Row;
 
 use crate::compare::{Answer, Answers, Compared, Lent, Query, Tally, compare};
 use crate::generate::Case;
@@ -14,7 +15,7 @@ use crate::probe::{
     probe_properties, probe_shape_of_name, probe_support_issues, probe_traits,
 };
 use crate::refusals::{self, Refusal};
-use crate::table::{Position, Row};
+use crate::table::Position;
 
 pub use alterations::ALTERATIONS;
 pub use queries::queries;
@@ -150,7 +151,7 @@ impl Oracle<'_> {
     }
 
     fn traits(&self, row: &Row) -> u32 {
-        let block = self.world().get(pos(row.position));
+        let block = self.world().get(pos(row.position()));
         let traits = block.expect("the row's own block").redstone_traits();
         let rise = traits.wire_rise_connection;
         assert_eq!(traits.permits_wire_rise_beside, rise.is_some(), "the port keeps one of these two traits");

@@ -19,9 +19,9 @@ mod compared {
     use differential::suite::{
         assert_alterations_reported, assert_compared, compare_many, good_cases, setting,
     };
-    use differential::table::{self, Row, kind};
     use original::sim::{Parts, RedstoneTickSimulator};
     use original::world::World;
+    use redstone::{Kind, Row};
 
     /// So many calls are compared, or more where DIFF_CALLS says so; 1,000,000 take some minutes.
     const CALLS: u64 = 50_000;
@@ -106,8 +106,8 @@ mod compared {
         }
     }
 
-    fn bench_case(rows: &[Row]) -> Case {
-        Case { seed: 0, sort: "test book", profile: BENCH_PROFILE.to_vec(), table: table::encode(rows) }
+    fn bench_case(rows: impl IntoIterator<Item = Row>) -> Case {
+        Case::new("test book", BENCH_PROFILE, rows)
     }
 
     /// The answer that both sides give.
@@ -121,7 +121,7 @@ mod compared {
     /// The original counts ticks in 64 bits and goes on.
     #[test]
     fn a_tick_number_past_32_bits_is_refused() {
-        let case = bench_case(&[Row::new([0; 3], kind::LAMP)]);
+        let case = bench_case([Row::new(Kind::RedstoneLamp, [0; 3])]);
         let tick = |ticks| answer(&case, Input::Tick { state: vec![0; 16], tick: u32::MAX - 1, ticks });
         assert_eq!([0, 1, 2, u32::MAX].map(|ticks| tick(ticks).refusal()), [None, None, Some(9), Some(9)]);
         let parts = Parts { tick: u32::MAX.into(), ..Parts::default() };
@@ -132,7 +132,7 @@ mod compared {
     /// The editor's crate has only 0 and 1 for a switch.
     #[test]
     fn any_number_but_0_switches_on() {
-        let case = bench_case(&[Row::new([0, 0, 0], kind::LEVER)]);
+        let case = bench_case([Row::new(Kind::Lever, [0; 3])]);
         let state = vec![0; 16];
         for (number, powered) in
             [(0, false), (1, true), (2, true), (256, true), (65_536, true), (u32::MAX, true)]
@@ -158,13 +158,8 @@ mod compared {
     /// Test 4 of the book.
     #[test]
     fn fifteen_dust_settle_in_seventeen_rounds() {
-        let floor = (1..=15).map(|x| Row::new([x, 0, 0], kind::SOLID));
-        let dust = (1..=15).map(|x| Row::new([x, 1, 0], kind::DUST));
-        let mut rows: Vec<_> = floor.chain(dust).collect();
-        rows.push(Row::new([0, 1, 0], kind::REDSTONE_BLOCK));
-        rows.sort_by_key(|row| row.position);
-        let case = bench_case(&rows);
-        let settle = |limit| answer(&case, Input::Settle { devices: vec![0; rows.len()], limit });
+        let case = Case::line("test book", 15);
+        let settle = |limit| answer(&case, Input::Settle { devices: vec![0; case.rows()], limit });
         let mut settled = settle(128);
         assert_eq!(settled.number, 17);
         assert_eq!(settled.bytes(SIGNAL).last(), Some(&1));
@@ -175,13 +170,9 @@ mod compared {
     /// Test 10 of the book: the lever on the lamp is thrown after tick 4.
     #[test]
     fn a_lamp_first_dark_at_tick_5_is_out_at_tick_7() {
-        let lamp = Row::new([0, 0, 0], kind::LAMP);
-        let mut lever = Row::new([0, 1, 0], kind::LEVER);
-        lever.support_offset = Some([0, -1, 0]);
-        lever.powered = 2;
-        let on = bench_case(&[lamp.clone(), lever.clone()]);
-        lever.powered = 1;
-        let off = bench_case(&[lamp, lever]);
+        let lamp = Row::new(Kind::RedstoneLamp, [0, 0, 0]);
+        let lever = Row::new(Kind::Lever, [0, 1, 0]).with_support([0, -1, 0]);
+        let [on, off] = [true, false].map(|powered| bench_case([lamp, lever.with_powered(powered)]));
         let fresh = answer(&on, Input::Fresh { state_bytes: 32 }).bytes(STATE);
         let state = answer(&on, Input::Tick { state: fresh, tick: 0, ticks: 4 }).bytes(STATE);
         let lamp_after = |ticks| {

@@ -25,6 +25,21 @@ pub struct Table {
 }
 
 impl Table {
+    /// Reads lines of which each is a table's.
+    ///
+    /// # Errors
+    ///
+    /// One is not, or they are no whole table.
+    pub fn read<'a>(lines: impl IntoIterator<Item = Line<'a>>) -> Result<Self, Error> {
+        let mut reader = TableReader::new();
+        for line in lines {
+            if !reader.read(line)? {
+                return Err(line.unknown(TableReader::WORDS));
+            }
+        }
+        reader.table()
+    }
+
     /// The number of the row at a position.
     #[must_use]
     pub fn find(&self, position: [i32; 3]) -> Option<usize> {
@@ -37,13 +52,7 @@ impl FromStr for Table {
     type Err = Error;
 
     fn from_str(text: &str) -> Result<Self, Error> {
-        let mut reader = TableReader::new();
-        for line in lines(text) {
-            if !reader.read(line)? {
-                return Err(line.unknown(TableReader::WORDS));
-            }
-        }
-        reader.table()
+        Self::read(lines(text))
     }
 }
 

@@ -1,11 +1,11 @@
 //! The proved library, by the editor's crate; the redraw and the support list by the probe.
 
-use ::redstone::{Columns, Rounds};
+use ::redstone::{Columns, Rounds, STATE_BYTES};
 
 use super::bench::{Bench, Settled};
 use crate::generate::Case;
 use crate::probe::{probe_redraw, probe_support_issues};
-use crate::refusals::{Refusal, STATE_BYTES};
+use crate::refusals::Refusal;
 use crate::table::Position;
 
 const LIMIT: u32 = 128;

@@ -1,10 +1,10 @@
 //! Wrong answers that the comparison must report.
 
+use redstone::{ROW_BYTES, STATE_BYTES};
+
 use super::{Call, Input, SIGNAL, STATE, STRONG, TABLE, WEAK};
 use crate::compare::{Alteration, Answers};
 use crate::probe::Probe;
-use crate::refusals::STATE_BYTES;
-use crate::table::ROW_BYTES;
 
 pub const ALTERATIONS: [Alteration<Call>; 11] = [
     Alteration {

@@ -3,6 +3,7 @@
 use std::cell::RefCell;
 
 use original::sim::{RedstoneTickSimulator, TickState};
+use redstone::STATE_BYTES;
 
 use super::queries::{LARGE, any_position};
 use super::{Buffers, Call, Input, SETTLES, STATE, TABLE, pack, settled, write_powered};
@@ -11,7 +12,6 @@ use crate::generate::Case;
 use crate::oracle::{Oracle, pos};
 use crate::probe::Probe;
 use crate::random::Random;
-use crate::refusals::STATE_BYTES;
 use crate::table::Position;
 
 #[derive(Clone, Copy, Debug)]

@@ -1,8 +1,9 @@
 //! Wrong answers that the comparison must report.
 
+use redstone::ROW_BYTES;
+
 use super::{Name, WorldQuery};
 use crate::compare::Alteration;
-use crate::table::ROW_BYTES;
 
 pub const ALTERATIONS: [Alteration<WorldQuery>; 12] = [
     Alteration {
