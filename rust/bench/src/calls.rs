@@ -4,7 +4,7 @@ use differential::compare::Answers;
 use differential::generate::{self, BENCH_PROFILE, Case};
 use differential::oracle::{Oracle, pos};
 use differential::probe::{Probe, probe_find};
-use differential::redstone::{Call, Input, STATE, device_outputs, fresh_devices, pack};
+use differential::redstone::{Call, Input, STATE, device_outputs, fresh_devices};
 use differential::table::Position;
 use original::electrical::solve_instantaneous;
 use original::sim::RedstoneTickSimulator;
@@ -37,7 +37,7 @@ pub fn assert_sides_agree(case: &Case) {
     let rows = oracle.rows.len();
     let ask = |input| {
         let call = Call { input, columns: [rows; 3] };
-        let mut answer = oracle.answer(&call);
+        let answer = oracle.answer(&call);
         assert_eq!(answer, Probe(case).answer(&call), "{}", case.sort);
         answer.bytes(STATE)
     };
@@ -95,30 +95,27 @@ fn of_fresh(oracle: &Oracle) -> Medians {
     )
 }
 
-/// The original's simulator and the state that is the same.
-fn started(oracle: &Oracle) -> (RedstoneTickSimulator, Vec<u8>) {
-    let simulator = RedstoneTickSimulator::new(oracle.world().clone()).expect("the original settles");
-    let state = pack(&oracle.rows, &simulator.parts());
-    (simulator, state)
-}
-
 fn of_tick(oracle: &Oracle) -> Medians {
     let Case { profile, table, .. } = oracle.case;
     let mut levels = Levels::new(oracle.rows.len());
-    let (mut simulator, mut state) = started(oracle);
+    let mut started = oracle.started();
+    let mut state = oracle.packed(&started);
+    let simulator = started.get_mut();
     let medians = medians(
         || (),
         |()| simulator.advance_tick(),
         || tick(profile, table, &mut state, 0, 1, levels.columns()),
     );
-    assert!(state == pack(&oracle.rows, &simulator.parts()), "the sides' states differ");
+    assert!(state == oracle.packed(&started), "the sides' states differ");
     medians
 }
 
 fn of_switch(oracle: &Oracle) -> Medians {
     let profile = &oracle.case.profile;
     let (mut table, mut levels) = (oracle.case.table.clone(), Levels::new(oracle.rows.len()));
-    let (mut simulator, state) = started(oracle);
+    let mut started = oracle.started();
+    let state = oracle.packed(&started);
+    let simulator = started.get_mut();
     let at = switched(&oracle.rows);
     let (mut simulators, mut proved) = (false, false);
     medians(

@@ -7,13 +7,14 @@ use std::io::Write;
 use redstone::ROW_BYTES;
 
 use crate::generate::Case;
+use crate::lent::Returned;
 use crate::refusals::REFUSED;
 
 /// What a function returns, and the buffers lent to it as they come back.
 #[derive(Clone, Debug, Eq, PartialEq)]
 pub struct Answer {
     pub number: i128,
-    pub buffers: Vec<Lent<u16>>,
+    pub buffers: Vec<Returned>,
 }
 
 impl<N: Into<i128>> From<N> for Answer {
@@ -23,7 +24,7 @@ impl<N: Into<i128>> From<N> for Answer {
 }
 
 impl Answer {
-    pub fn with_buffers<const N: usize>(number: impl Into<i128>, buffers: [Lent<u16>; N]) -> Self {
+    pub fn with_buffers<const N: usize>(number: impl Into<i128>, buffers: [Returned; N]) -> Self {
         Self { number: number.into(), buffers: buffers.into() }
     }
 
@@ -34,36 +35,8 @@ impl Answer {
     }
 
     /// What a buffer of bytes came back with.
-    pub fn bytes(&mut self, buffer: usize) -> Vec<u8> {
-        self.buffers[buffer].entries().iter().map(|entry| *entry as u8).collect()
-    }
-}
-
-/// A buffer to lend, between guards that show a write outside of it.
-#[derive(Clone, Debug, Eq, PartialEq)]
-pub struct Lent<T> {
-    entries: Vec<T>,
-}
-
-const GUARDS: usize = 16;
-
-impl<T: Copy + Into<u16>> Lent<T> {
-    pub fn new(guard: T, entries: &[T]) -> Self {
-        Self { entries: [&[guard; GUARDS], entries, &[guard; GUARDS]].concat() }
-    }
-
-    pub fn entries(&mut self) -> &mut [T] {
-        let end = self.entries.len() - GUARDS;
-        &mut self.entries[GUARDS..end]
-    }
-
-    pub fn first_guard_after(&mut self) -> &mut T {
-        let end = self.entries.len() - GUARDS;
-        &mut self.entries[end]
-    }
-
-    pub fn returned(self) -> Lent<u16> {
-        Lent { entries: self.entries.into_iter().map(Into::into).collect() }
+    pub fn bytes(&self, buffer: usize) -> Vec<u8> {
+        self.buffers[buffer].entries.iter().map(|entry| *entry as u8).collect()
     }
 }
 

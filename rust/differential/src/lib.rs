@@ -8,6 +8,7 @@ pub mod connectivity;
 pub mod damage;
 pub mod differences;
 pub mod generate;
+pub mod lent;
 #[cfg(not(no_original))]
 pub mod oracle;
 pub mod positions;

@@ -1,7 +1,7 @@
 //! The original's side of a comparison.
 
-use original::set_profile;
 use original::world::{Block, BlockKind, Facing, Pos, WireConnection, World};
+use original::{Profile, Profiled};
 use redstone::{Arm, Row, Shape};
 
 use crate::generate::Case;
@@ -13,33 +13,38 @@ pub struct Oracle<'a> {
     pub case: &'a Case,
     pub refusal: Result<(), Refusal>,
     pub rows: Vec<Row>,
-    world: World,
+    world: Profiled<World>,
+}
+
+/// The original's world of these rows, which answers by the profile. Every world is made here.
+pub fn world(profile: Profile, rows: &[Row]) -> Profiled<World> {
+    let mut world = World::new();
+    for row in rows {
+        world.set(pos(row.position()), block(row));
+    }
+    Profiled::new(profile, world)
 }
 
 impl<'a> Oracle<'a> {
     pub fn new(case: &'a Case) -> Self {
         let refusal = refusals::check(&case.profile, &case.table);
-        let mut rows = Vec::new();
+        let (mut profile, mut rows) = (Profile::default(), Vec::new());
         if refusal.is_ok() {
+            profile.copy_from_slice(&case.profile);
             rows = table::rows(&case.table);
         }
-        let mut world = World::new();
-        for row in &rows {
-            world.set(pos(row.position()), block(row));
-        }
+        let world = world(profile, &rows);
         Self { case, refusal, rows, world }
-    }
-
-    /// Lets the original answer by this case's profile.
-    pub fn put_profile_in_force(&self) {
-        let profile = self.case.profile[..].try_into();
-        set_profile(profile.expect("an accepted profile"));
     }
 
     /// The world, with this case's profile in force.
     pub fn world(&self) -> &World {
-        self.put_profile_in_force();
-        &self.world
+        self.world.get()
+    }
+
+    /// What is made of a copy of the world and answers by this case's profile, too.
+    pub fn made<T>(&self, make: impl FnOnce(World) -> T) -> Profiled<T> {
+        self.world.map(|world| make(world.clone()))
     }
 
     /// The number of the row at a position that the world has.

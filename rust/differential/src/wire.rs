@@ -12,8 +12,9 @@ use original::wire::{
 use original::world::{Facing, WireConnection, World};
 use redstone::{Arm, Row};
 
-use crate::compare::{Answer, Answers, Compared, Lent, Query, Tally, compare};
+use crate::compare::{Answer, Answers, Compared, Query, Tally, compare};
 use crate::generate::Case;
+use crate::lent::Lent;
 use crate::oracle::{Oracle, arm, connection_number, facing, pos};
 use crate::probe::{
     Probe, probe_component_connects, probe_infer, probe_redraw, probe_resolved, probe_transfer,
@@ -49,10 +50,6 @@ impl Query for WireQuery {
     }
 }
 
-fn lent_table(table: &[u8]) -> Lent<u8> {
-    Lent::new(0xa5, table)
-}
-
 impl Answers<WireQuery> for Probe<'_> {
     fn answer(&self, query: &WireQuery) -> Answer {
         let Case { profile, table, .. } = self.0;
@@ -64,7 +61,7 @@ impl Answers<WireQuery> for Probe<'_> {
                 probe_transfer(profile, table, x, y, z, x2, y2, z2).into()
             }
             WireQuery::Redraw => {
-                let mut table = lent_table(table);
+                let mut table = Lent::new(table);
                 let number = probe_redraw(profile, table.entries());
                 Answer::with_buffers(number, [table.returned()])
             }
@@ -88,7 +85,7 @@ impl Answers<WireQuery> for Oracle<'_> {
                 transfer_number(dust_transfer(self.world(), pos(source), pos(sink))).into()
             }
             WireQuery::Redraw => {
-                let mut table = lent_table(&self.case.table);
+                let mut table = Lent::new(&self.case.table);
                 let number = self.redraw(table.entries()).unwrap_or_else(Refusal::code);
                 Answer::with_buffers(number, [table.returned()])
             }

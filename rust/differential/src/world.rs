@@ -7,8 +7,9 @@ use original::blocks::behavior_profile;
 use original::world::{Block, BlockKind, BlockRedstoneTraits, Facing, OccupiedShape};
 use redstone::Row;
 
-use crate::compare::{Answer, Answers, Compared, Lent, Query, Tally, compare};
+use crate::compare::{Answer, Answers, Compared, Query, Tally, compare};
 use crate::generate::Case;
+use crate::lent::Lent;
 use crate::oracle::{KINDS, Oracle, connection_number, facing, facing_number, pos};
 use crate::probe::{
     Probe, probe_find, probe_horizontal_offset, probe_kind_at, probe_offset, probe_opposite,
@@ -73,11 +74,6 @@ impl Query for WorldQuery {
 
 const NOTHING_THERE: u64 = u64::MAX;
 const NO_OFFSET: i32 = 2;
-const UNTOUCHED: u16 = 0xa5c3;
-
-fn support_column(entries: usize) -> Lent<u16> {
-    Lent::new(!UNTOUCHED, &vec![UNTOUCHED; entries])
-}
 
 impl Answers<WorldQuery> for Probe<'_> {
     fn answer(&self, query: &WorldQuery) -> Answer {
@@ -91,7 +87,7 @@ impl Answers<WorldQuery> for Probe<'_> {
                 probe_shape_of_name(name, slab_type, half).into()
             }
             &WorldQuery::SupportIssues { entries } => {
-                let mut column = support_column(entries);
+                let mut column = Lent::untouched(entries);
                 let number = probe_support_issues(profile, table, column.entries());
                 Answer::with_buffers(number, [column.returned()])
             }
@@ -115,7 +111,7 @@ impl Answers<WorldQuery> for Oracle<'_> {
             &WorldQuery::Traits(row) => self.traits(&self.rows[row]).into(),
             WorldQuery::ShapeOfName(name) => shape_of_name(name).into(),
             &WorldQuery::SupportIssues { entries } => {
-                let mut column = support_column(entries);
+                let mut column = Lent::untouched(entries);
                 let number = self.support_issues(column.entries());
                 Answer::with_buffers(number.unwrap_or_else(Refusal::code), [column.returned()])
             }
@@ -136,10 +132,11 @@ impl Oracle<'_> {
 
     /// A kind that the original has not is of no properties.
     fn properties(&self, kind: u32) -> u32 {
-        self.put_profile_in_force();
         let Some(kind) = KINDS.get(kind as usize) else {
             return 0;
         };
+        // To reach for the world is to put the profile in force.
+        self.world();
         let properties = behavior_profile(*kind).properties;
         sum_of_bits([
             properties.supports_components,

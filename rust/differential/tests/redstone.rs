@@ -10,10 +10,10 @@ fn the_original_was_not_found() {
 mod compared {
     use differential::compare::{Answer, Answers, Tally, compare, run};
     use differential::generate::{self, BENCH_PROFILE, Case};
-    use differential::oracle::Oracle;
+    use differential::oracle::{Oracle, world};
     use differential::probe::{Probe, redstone_switch};
     use differential::redstone::{
-        ALTERATIONS, Call, Input, OriginalRun, ProvedRun, SIGNAL, STATE, TABLE, compare_case, edges, pack,
+        ALTERATIONS, Call, Input, OriginalRun, ProvedRun, SIGNAL, STATE, Step, TABLE, compare_case, edges,
         settle_at_every_limit, single_bytes, steps,
     };
     use differential::suite::{
@@ -56,6 +56,21 @@ mod compared {
         assert_compared("runs", compared);
     }
 
+    /// Whatever was asked before, an answer is by the profile of the case that it is about.
+    #[test]
+    fn runs_by_turns_answer_by_their_own_profiles() {
+        let cases: Vec<_> = (0..40).map(generate::case).collect();
+        let oracles: Vec<_> = cases.iter().map(Oracle::new).collect();
+        let sides =
+            oracles.iter().map(|oracle| (OriginalRun::new(oracle), ProvedRun::new(oracle.case, false)));
+        let sides: Vec<_> = sides.collect();
+        for step in [Step::Fresh, Step::Ticks(1), Step::Ticks(3)] {
+            for ((original, proved), case) in sides.iter().zip(&cases) {
+                assert_eq!(original.answer(&step), proved.answer(&step), "{case}");
+            }
+        }
+    }
+
     #[test]
     fn many_ticks_in_one_call_are_as_many_single_ones() {
         let compared = run(good_cases(300), |case, tally| {
@@ -95,13 +110,12 @@ mod compared {
     fn packed_states_lose_nothing() {
         for case in (0..500).map(generate::case) {
             let oracle = Oracle::new(&case);
-            let packed = |simulator: &RedstoneTickSimulator| pack(&oracle.rows, &simulator.parts());
-            let mut whole = RedstoneTickSimulator::new(oracle.world().clone()).unwrap();
+            let mut whole = oracle.started();
             for _ in 0..12 {
-                let mut stepped = oracle.simulator(&packed(&whole));
-                let settled = stepped.advance_tick().unwrap();
-                assert_eq!(settled.strengths, whole.advance_tick().unwrap().strengths, "{case}");
-                assert_eq!(packed(&stepped), packed(&whole), "{case}");
+                let mut stepped = oracle.simulator(&oracle.packed(&whole));
+                let settled = stepped.get_mut().advance_tick().unwrap();
+                assert_eq!(settled.strengths, whole.get_mut().advance_tick().unwrap().strengths, "{case}");
+                assert_eq!(oracle.packed(&stepped), oracle.packed(&whole), "{case}");
             }
         }
     }
@@ -125,8 +139,9 @@ mod compared {
         let tick = |ticks| answer(&case, Input::Tick { state: vec![0; 16], tick: u32::MAX - 1, ticks });
         assert_eq!([0, 1, 2, u32::MAX].map(|ticks| tick(ticks).refusal()), [None, None, Some(9), Some(9)]);
         let parts = Parts { tick: u32::MAX.into(), ..Parts::default() };
-        let mut original = RedstoneTickSimulator::from_parts(World::new(), parts).unwrap();
-        assert_eq!(original.advance_tick().unwrap().tick, 1 << 32);
+        let simulator = |world: &World| RedstoneTickSimulator::from_parts(world.clone(), parts).unwrap();
+        let mut original = world(BENCH_PROFILE, &[]).map(simulator);
+        assert_eq!(original.get_mut().advance_tick().unwrap().tick, 1 << 32);
     }
 
     /// The editor's crate has only 0 and 1 for a switch.
@@ -150,7 +165,7 @@ mod compared {
                 &mut weak,
                 &mut strong,
             );
-            let mut switched = answer(&case, Input::Switch { state: state.clone(), at: [0; 3], powered });
+            let switched = answer(&case, Input::Switch { state: state.clone(), at: [0; 3], powered });
             assert_eq!((table, signal.to_vec()), (switched.bytes(TABLE), switched.bytes(SIGNAL)), "{number}");
         }
     }
@@ -160,7 +175,7 @@ mod compared {
     fn fifteen_dust_settle_in_seventeen_rounds() {
         let case = Case::line("test book", 15);
         let settle = |limit| answer(&case, Input::Settle { devices: vec![0; case.rows()], limit });
-        let mut settled = settle(128);
+        let settled = settle(128);
         assert_eq!(settled.number, 17);
         assert_eq!(settled.bytes(SIGNAL).last(), Some(&1));
         assert_eq!(settle(17), settled);

@@ -20,7 +20,7 @@ impl<'a> Original<'a> {
     }
 
     fn step(&self, step: Step) -> Settled {
-        let mut answer = self.run.answer(&step);
+        let answer = self.run.answer(&step);
         let columns = [SIGNAL, WEAK, STRONG].map(|column| answer.bytes(column));
         Settled { rounds: answer.number as u32, state: answer.bytes(STATE), columns }
     }
@@ -45,8 +45,7 @@ impl Bench for Original<'_> {
     }
 
     fn unsupported(&self) -> Vec<u16> {
-        let mut answer = self.oracle.answer(&WorldQuery::SupportIssues { entries: self.oracle.rows.len() });
-        let count = answer.number as usize;
-        answer.buffers[0].entries()[..count].to_vec()
+        let answer = self.oracle.answer(&WorldQuery::SupportIssues { entries: self.oracle.rows.len() });
+        answer.buffers[0].entries[..answer.number as usize].to_vec()
     }
 }

@@ -4,6 +4,7 @@ use ::redstone::{Columns, Rounds, STATE_BYTES};
 
 use super::bench::{Bench, Settled};
 use crate::generate::Case;
+use crate::lent::Lent;
 use crate::probe::{probe_redraw, probe_support_issues};
 use crate::refusals::Refusal;
 use crate::table::Position;
@@ -26,13 +27,14 @@ impl Proved {
         &mut self,
         call: impl FnOnce(&mut Self, Columns) -> Result<Rounds, ::redstone::Refusal>,
     ) -> Result<Settled, Refusal> {
-        let [mut signal, mut weak, mut strong] = [(); 3].map(|()| vec![0; self.case.rows()]);
-        let columns = Columns { signal: &mut signal, weak: &mut weak, strong: &mut strong };
-        let rounds = call(self, columns).map_err(|refusal| {
+        let mut columns = [(); 3].map(|()| Lent::untouched(self.case.rows()));
+        let [signal, weak, strong] = columns.each_mut().map(Lent::entries);
+        let rounds = call(self, Columns { signal, weak, strong }).map_err(|refusal| {
             let ::redstone::Refusal { number, row } = refusal;
             Refusal { number, row }
         })?;
-        Ok(Settled { rounds: rounds.get(), state: self.state.clone(), columns: [signal, weak, strong] })
+        let columns = columns.map(Lent::taken_back);
+        Ok(Settled { rounds: rounds.get(), state: self.state.clone(), columns })
     }
 
     fn settle(&mut self) -> Result<Settled, Refusal> {
@@ -69,14 +71,14 @@ impl Bench for Proved {
     }
 
     fn redrawn(&self) -> Vec<u8> {
-        let mut table = self.case.table.clone();
-        assert_eq!(probe_redraw(&self.case.profile, &mut table), 0, "{NOT_REFUSED}");
-        table
+        let mut table = Lent::new(&self.case.table);
+        assert_eq!(probe_redraw(&self.case.profile, table.entries()), 0, "{NOT_REFUSED}");
+        table.taken_back()
     }
 
     fn unsupported(&self) -> Vec<u16> {
-        let mut column = vec![0; self.case.rows()];
-        let count = probe_support_issues(&self.case.profile, &self.case.table, &mut column);
-        column[..count as usize].to_vec()
+        let mut column = Lent::untouched(self.case.rows());
+        let count = probe_support_issues(&self.case.profile, &self.case.table, column.entries());
+        column.taken_back()[..count as usize].to_vec()
     }
 }

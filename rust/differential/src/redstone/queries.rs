@@ -1,10 +1,9 @@
 //! The calls that both sides are asked to answer for a case.
 
 use original::electrical::DeviceOutputState;
-use original::sim::RedstoneTickSimulator;
 use redstone::{Kind, Row, STATE_BYTES};
 
-use super::{Call, Input, SETTLES, pack};
+use super::{Call, Input, SETTLES};
 use crate::generate::Case;
 use crate::oracle::{Oracle, pos};
 use crate::random::Random;
@@ -100,7 +99,8 @@ fn any_device(random: &mut Random, kind: Kind) -> u8 {
 
 /// A state that a run comes to while switches are thrown: at its end they may stand otherwise than in the table.
 fn reached_state(random: &mut Random, oracle: &Oracle) -> Vec<u8> {
-    let mut simulator = RedstoneTickSimulator::new(oracle.world().clone()).expect(SETTLES);
+    let mut started = oracle.started();
+    let simulator = started.get_mut();
     let ticks = if oracle.rows.len() >= LARGE { 1 } else { random.pick(&[0, 1, 2, 4, 8, 35]) };
     for _ in 0..ticks {
         if random.percent(30) {
@@ -109,7 +109,7 @@ fn reached_state(random: &mut Random, oracle: &Oracle) -> Vec<u8> {
         }
         simulator.advance_tick().expect(SETTLES);
     }
-    pack(&oracle.rows, &simulator.parts())
+    oracle.packed(&started)
 }
 
 /// Any state that document 01 allows, whether a run comes to it or not.

@@ -65,9 +65,9 @@ fn settles(random: &mut Random, case: &Case, kept: usize) -> Vec<Record> {
         let mut limits = [&LIMITS[..], &[rounds, rounds - 1]].concat();
         random.keep(&mut limits, kept);
         for limit in limits {
-            let mut answer = settle(limit);
+            let answer = settle(limit);
             let record = Record::new(10).slice(&case.profile).slice(&case.table).slice(&devices);
-            records.push(columns(record, &mut answer).number(limit).number(number(&answer)));
+            records.push(columns(record, &answer).number(limit).number(number(&answer)));
         }
     }
     records
@@ -91,20 +91,20 @@ fn run(case: &Case, steps: &[Step]) -> Run {
     let (mut table, mut state, mut tick) = (case.table.clone(), Vec::new(), 0);
     let mut run = Run { records: Vec::new(), changes: 0 };
     for step in steps {
-        let mut answer = original.answer(step);
+        let answer = original.answer(step);
         let next = [answer.bytes(TABLE), answer.bytes(STATE)];
         let with = |operation| Record::new(operation).slice(&case.profile).slice(&table);
         let record = match *step {
-            Step::Fresh => columns(with(11).slice(&next[1]), &mut answer),
+            Step::Fresh => columns(with(11).slice(&next[1]), &answer),
             Step::Ticks(ticks) => {
-                let record = columns(with(12).slice(&state).slice(&next[1]), &mut answer);
+                let record = columns(with(12).slice(&state).slice(&next[1]), &answer);
                 let record = record.number(tick).number(ticks);
                 tick += ticks;
                 run.changes += usize::from(state != next[1]);
                 record
             }
             Step::Switch { at, powered } => {
-                let record = columns(with(13).slice(&next[0]).slice(&state), &mut answer);
+                let record = columns(with(13).slice(&next[0]).slice(&state), &answer);
                 record.position(at).number(powered.into())
             }
         };
@@ -115,7 +115,7 @@ fn run(case: &Case, steps: &[Step]) -> Run {
 }
 
 /// The signal, weak and strong columns.
-fn columns(record: Record, answer: &mut Answer) -> Record {
+fn columns(record: Record, answer: &Answer) -> Record {
     [SIGNAL, WEAK, STRONG].into_iter().fold(record, |record, column| record.slice(&answer.bytes(column)))
 }
 

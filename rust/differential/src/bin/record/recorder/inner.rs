@@ -60,9 +60,9 @@ fn look_up(case: &Case, at: Position) -> Record {
 }
 
 fn support_issues(case: &Case) -> Record {
-    let mut answer = ask(case, WorldQuery::SupportIssues { entries: case.rows() });
+    let answer = ask(case, WorldQuery::SupportIssues { entries: case.rows() });
     let count = u32::try_from(answer.number).expect("an answer of the layout's width");
-    let rows = &answer.buffers[0].entries()[..count as usize];
+    let rows = &answer.buffers[0].entries[..count as usize];
     let list: Vec<_> = rows.iter().flat_map(|row| row.to_le_bytes()).collect();
     Record::new(4).slice(&case.profile).slice(&case.table).slice(&list).bytes(&count.to_le_bytes())
 }

@@ -85,7 +85,7 @@ fn transfer(case: &Case, source: Position, sink: Position) -> (u8, Record) {
 
 /// The redrawn table, if it is another than before.
 fn redraw(case: &Case) -> Option<Record> {
-    let mut answer = ask(case, &WireQuery::Redraw);
+    let answer = ask(case, &WireQuery::Redraw);
     let redrawn = answer.bytes(0);
     let code = u32::try_from(answer.number).expect("an answer of the layout's width");
     let record = Record::new(9).slice(&case.profile).slice(&case.table).slice(&redrawn).number(code);
