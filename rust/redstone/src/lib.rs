@@ -112,6 +112,11 @@ pub use field::BadField;
 pub use row::{Row, RowError};
 pub use table::{find, rows, table};
 
+/// The program in the README.
+#[cfg(doctest)]
+#[doc = include_str!("../../../README.md")]
+struct Readme;
+
 /// Bytes of a row of the table.
 pub const ROW_BYTES: usize = 32;
 /// Bytes of a row of a state.
