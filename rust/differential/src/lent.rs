@@ -69,13 +69,6 @@ impl<T: Entry> Lent<T> {
         Returned { entries, outside: self.outside() }
     }
 
-    /// The entries of a buffer outside of which nothing may have been written.
-    pub fn taken_back(mut self) -> Vec<T> {
-        let outside = self.outside();
-        assert!(outside.is_empty(), "a call wrote outside of its buffer: {outside:?}");
-        self.entries().to_vec()
-    }
-
     fn outside(&self) -> Vec<(isize, u16)> {
         let written = |first: usize| {
             let guards = self.all[first..].iter().take(GUARDS).enumerate();

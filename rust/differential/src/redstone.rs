@@ -16,7 +16,7 @@ use crate::compare::{Answer, Answers, Compared, Query, Tally, compare};
 use crate::generate::Case;
 use crate::lent::Lent;
 use crate::oracle::{Oracle, pos};
-use crate::probe::Probe;
+use crate::probe::{Probe, answered};
 use crate::refusals::{self, Refusal};
 use crate::table::Position;
 
@@ -106,7 +106,7 @@ impl Answers<Call> for Probe<'_> {
         let mut buffers = Buffers::for_call(self.0, call);
         let [profile, table, state, signal, weak, strong] = buffers.entries();
         let columns = Columns { signal, weak, strong };
-        let answered = match call.input {
+        let rounds = match call.input {
             Input::Fresh { .. } => ::redstone::fresh(profile, table, state, columns),
             Input::Settle { limit, .. } => ::redstone::settle(profile, table, state, limit, columns),
             Input::Tick { tick, ticks, .. } => ::redstone::tick(profile, table, state, tick, ticks, columns),
@@ -114,15 +114,7 @@ impl Answers<Call> for Probe<'_> {
                 ::redstone::switch(profile, table, state, at, powered, columns)
             }
         };
-        buffers.answer(number(answered))
-    }
-}
-
-/// The number that the C call answered with.
-fn number(answered: Result<Rounds, ::redstone::Refusal>) -> u32 {
-    match answered {
-        Ok(rounds) => rounds.get(),
-        Err(::redstone::Refusal { number, row }) => Refusal { number, row }.code(),
+        buffers.answer(answered(rounds.map(Rounds::get)))
     }
 }
 

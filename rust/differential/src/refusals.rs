@@ -24,6 +24,12 @@ impl Refusal {
     }
 }
 
+impl From<redstone::Refusal> for Refusal {
+    fn from(redstone::Refusal { number, row, .. }: redstone::Refusal) -> Self {
+        Self { number, row }
+    }
+}
+
 type Checked = Result<(), Refusal>;
 
 fn refuse_if(refused: bool, number: u32) -> Checked {

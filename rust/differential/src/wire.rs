@@ -12,12 +12,12 @@ use original::wire::{
 use original::world::{Facing, WireConnection, World};
 use redstone::{Arm, Row};
 
-use crate::compare::{Answer, Answers, Compared, Query, Tally, compare};
+use crate::compare::{Answer, Answers, Compared, Query, Tally, compare, same};
 use crate::generate::Case;
 use crate::lent::Lent;
 use crate::oracle::{Oracle, arm, connection_number, facing, pos};
 use crate::probe::{
-    Probe, probe_component_connects, probe_infer, probe_redraw, probe_resolved, probe_transfer,
+    Probe, answered, probe_component_connects, probe_infer, probe_redraw, probe_resolved, probe_transfer,
 };
 use crate::refusals::Refusal;
 use crate::table::Position;
@@ -61,12 +61,19 @@ impl Answers<WireQuery> for Probe<'_> {
                 probe_transfer(profile, table, x, y, z, x2, y2, z2).into()
             }
             WireQuery::Redraw => {
-                let mut table = Lent::new(table);
-                let number = probe_redraw(profile, table.entries());
-                Answer::with_buffers(number, [table.returned()])
+                let redraw = |call: fn(&[u8], &mut [u8]) -> u32| {
+                    let mut table = Lent::new(table);
+                    let number = call(profile, table.entries());
+                    Answer::with_buffers(number, [table.returned()])
+                };
+                same([probe_redraw, editors_redraw].map(redraw))
             }
         }
     }
+}
+
+fn editors_redraw(profile: &[u8], table: &mut [u8]) -> u32 {
+    answered(redstone::redraw(profile, table).map(|()| 0))
 }
 
 impl Answers<WireQuery> for Oracle<'_> {

@@ -7,12 +7,12 @@ use original::blocks::behavior_profile;
 use original::world::{Block, BlockKind, BlockRedstoneTraits, Facing, OccupiedShape};
 use redstone::Row;
 
-use crate::compare::{Answer, Answers, Compared, Query, Tally, compare};
+use crate::compare::{Answer, Answers, Compared, Query, Tally, compare, same};
 use crate::generate::Case;
 use crate::lent::Lent;
 use crate::oracle::{KINDS, Oracle, connection_number, facing, facing_number, pos};
 use crate::probe::{
-    Probe, probe_find, probe_horizontal_offset, probe_kind_at, probe_offset, probe_opposite,
+    Probe, answered, probe_find, probe_horizontal_offset, probe_kind_at, probe_offset, probe_opposite,
     probe_properties, probe_shape_of_name, probe_support_issues, probe_traits,
 };
 use crate::refusals::{self, Refusal};
@@ -87,9 +87,12 @@ impl Answers<WorldQuery> for Probe<'_> {
                 probe_shape_of_name(name, slab_type, half).into()
             }
             &WorldQuery::SupportIssues { entries } => {
-                let mut column = Lent::untouched(entries);
-                let number = probe_support_issues(profile, table, column.entries());
-                Answer::with_buffers(number, [column.returned()])
+                let list = |call: fn(&[u8], &[u8], &mut [u16]) -> u32| {
+                    let mut column = Lent::untouched(entries);
+                    let number = call(profile, table, column.entries());
+                    Answer::with_buffers(number, [column.returned()])
+                };
+                same([probe_support_issues, editors_supports].map(list))
             }
             &WorldQuery::Offset { from: [x, y, z], by: [dx, dy, dz], axis } => {
                 probe_offset(x, y, z, dx, dy, dz, axis as u32).into()
@@ -100,6 +103,10 @@ impl Answers<WorldQuery> for Probe<'_> {
             }
         }
     }
+}
+
+fn editors_supports(profile: &[u8], table: &[u8], rows: &mut [u16]) -> u32 {
+    answered(redstone::supports(profile, table, rows).map(|count| count as u32))
 }
 
 impl Answers<WorldQuery> for Oracle<'_> {

@@ -5,7 +5,6 @@ use std::fmt::Debug;
 use differential::generate::{BENCH_PROFILE, Case};
 use differential::lent::{Entry, GUARDS, Lent};
 use differential::probe::probe_support_issues;
-use differential::suite::panics;
 use redstone::{Columns, Kind, Row};
 
 /// Writes each of these values for an entry to every place in and around buffers of some lengths.
@@ -34,16 +33,6 @@ fn places(entries: usize) -> std::ops::Range<usize> {
 fn a_write_of_any_bit_is_noticed() {
     assert_each_write_is_noticed(|entry: u8| (0..8).map(|bit| entry ^ 1 << bit).collect());
     assert_each_write_is_noticed(|entry: u16| (0..16).map(|bit| entry ^ 1 << bit).collect());
-}
-
-#[test]
-fn a_buffer_with_a_write_outside_is_not_taken_back() {
-    for place in [0, GUARDS - 1, GUARDS + 2, 2 * GUARDS + 1] {
-        let mut lent = Lent::<u16>::untouched(2);
-        lent.with_guards()[place] = 0;
-        assert!(panics(|| lent.taken_back()));
-    }
-    assert_eq!(Lent::new(&[7_u16, 8]).taken_back(), [7, 8]);
 }
 
 /// The proved settling, over a signal column that begins so many entries late or ends so many early.

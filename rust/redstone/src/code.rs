@@ -92,7 +92,7 @@ macro_rules! coded {
 }
 
 coded! {
-    /// The kind of a block.
+    /// The kind of a block. What a kind carries and takes, its byte of the profile says.
     ///
     /// ```
     /// use redstone::Kind;
@@ -103,29 +103,29 @@ coded! {
     /// ```
     #[non_exhaustive]
     pub enum Kind as "kind" {
-        /// A full block.
+        /// A full block: by the bench profile it supports components and takes all power.
         Solid = 1,
-        /// A block that carries components and lets no power through.
+        /// A full block that by the bench profile supports components and takes no power.
         Transparent = 2,
         /// Dust.
         RedstoneWire = 3,
-        /// A torch, on the block that it is fixed to.
+        /// A torch. It is fixed to the block at its support offset.
         RedstoneTorch = 4,
         /// A repeater. It faces its output.
         Repeater = 5,
         /// A comparator. It faces its output.
         Comparator = 6,
-        /// A lever.
+        /// A lever. It powers the block at its support offset.
         Lever = 7,
-        /// A button.
+        /// A button, as a lever.
         Button = 8,
-        /// A pressure plate.
+        /// A pressure plate, as a lever.
         PressurePlate = 9,
-        /// A lamp.
+        /// A lamp. By the bench profile it supports components and takes all power.
         RedstoneLamp = 10,
-        /// A block that always gives 15.
+        /// A block that always gives 15. By the bench profile it supports components and takes no power.
         RedstoneBlock = 11,
-        /// A piston, which the bench never moves.
+        /// A piston. It does nothing here.
         Piston = 12,
     }
 }
@@ -161,21 +161,21 @@ coded! {
 }
 
 coded! {
-    /// The shape of a block.
+    /// The shape of a block. All but the plain one stand in the place of what the profile says of the kind.
     pub enum Shape as "shape" {
-        /// What the kind's byte of the profile says.
+        /// What the profile says of the kind.
         Plain = 0,
-        /// It carries nothing.
+        /// It supports nothing and takes no power.
         BottomSlab = 1,
-        /// It carries components.
+        /// It supports components. Power climbs over it from dust to dust, and does not come down.
         TopSlab = 2,
         /// As a solid block.
         DoubleSlab = 3,
-        /// It carries nothing.
+        /// As a bottom slab.
         BottomStairs = 4,
-        /// It carries components.
+        /// As a top slab.
         TopStairs = 5,
-        /// It carries components, and dust climbs it in both directions.
+        /// As a top slab, but that dust beside it has an arm up where one on a slab has it on the side.
         Glass = 6,
     }
 }

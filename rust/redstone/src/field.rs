@@ -21,8 +21,8 @@ pub(crate) enum Allowed {
     Codes(Option<Named>, &'static [Named]),
     /// 0 alone, since this field is 0.
     ZeroWith(Field),
-    /// 0 alone, always.
-    Zero,
+    /// What the words say.
+    Rule(&'static str),
 }
 
 impl Field {
@@ -40,7 +40,7 @@ impl Field {
         i32::from_le_bytes([byte(0), byte(1), byte(2), byte(3)])
     }
 
-    /// The byte of a value that is not given, which has to be 0.
+    /// The byte of a value that the row does not have, which is 0.
     pub(crate) fn zero(self, row: &[u8], allowed: Allowed) -> Result<(), BadField> {
         match self.byte(row) {
             0 => Ok(()),
@@ -134,7 +134,7 @@ impl Display for BadField {
                 write!(f, "it may be {}", one_of(codes))
             }
             Allowed::ZeroWith(Field { name, at }) => write!(f, "it must be 0, as {name} (byte {at}) is"),
-            Allowed::Zero => write!(f, "it must be 0"),
+            Allowed::Rule(words) => f.write_str(words),
         }
     }
 }

@@ -30,7 +30,8 @@ const UNUSED: [Field; 2] = [field("unused", 30), field("unused", 31)];
 /// A row of the table: a block and its position.
 ///
 /// A field that is not set is missing. Each has a getter by its name and a `with_` that sets it, or clears it where it
-/// is given `None`. [`Row::bytes`] packs a row, and `Row::try_from` reads 32 bytes back.
+/// is given `None`. [`Row::bytes`] packs a row, and `Row::try_from` reads 32 bytes back. Any kind may have any field;
+/// the getters say what it means to which.
 ///
 /// ```
 /// use redstone::{Facing, Kind, Row};
@@ -41,6 +42,8 @@ const UNUSED: [Field; 2] = [field("unused", 30), field("unused", 31)];
 /// assert_eq!((read.facing(), read.delay(), read.powered()), (Some(Facing::East), Some(2), None));
 /// # Ok::<(), redstone::BadField>(())
 /// ```
+///
+/// A coordinate or a support offset out of range can be set, and no call accepts it; it is not read back.
 #[derive(Clone, Copy, Debug, Eq, Hash, PartialEq)]
 pub struct Row {
     position: [i32; 3],
@@ -56,7 +59,7 @@ pub struct Row {
 }
 
 impl Row {
-    /// A block at x, y, z, each from -1,000,000 to 1,000,000; y is up.
+    /// A block at x, y, z, each from -1,000,000 to 1,000,000, with no other field. y is up.
     #[must_use]
     pub const fn new(kind: Kind, position: [i32; 3]) -> Self {
         Self {
@@ -97,20 +100,21 @@ impl Row {
         Self { kind, ..self }
     }
 
-    /// Where the block faces. A repeater or comparator faces its output.
+    /// Where the block faces. A repeater or comparator faces its output, and has its input at the opposite side; with
+    /// a facing that is missing, Up or Down it has neither. No other kind's facing matters to the bench.
     #[must_use]
     pub fn facing(&self) -> Option<Facing> {
         self.facing
     }
 
-    /// Sets where the block faces. A repeater or comparator faces its output.
+    /// Sets [`facing`](Self::facing).
     #[must_use]
     pub fn with_facing(self, facing: impl Into<Option<Facing>>) -> Self {
         Self { facing: facing.into(), ..self }
     }
 
-    /// Whether a lever, button or plate is on, or a repeater, comparator or torch starts on. A torch where it is
-    /// missing starts lit; for all others missing is off.
+    /// Whether a lever, button or plate is on, and whether a repeater, torch or comparator starts on. Where it is
+    /// missing a torch starts lit, and all others are off. A comparator with a power level starts with that.
     #[must_use]
     pub fn powered(&self) -> Option<bool> {
         self.powered
@@ -122,8 +126,8 @@ impl Row {
         Self { powered: powered.into(), ..self }
     }
 
-    /// The level that a lever, button or plate gives when it is on, at most 15, and 15 where it is missing; or that a
-    /// comparator starts with.
+    /// The level that a lever, button or plate gives while it is on: at most 15, and 15 where it is missing. A
+    /// comparator starts with it, even above 15; where it is missing, with 15 or 0 as [`powered`](Self::powered) says.
     #[must_use]
     pub fn power_level(&self) -> Option<u8> {
         self.power_level
@@ -147,7 +151,15 @@ impl Row {
         Self { delay: ticks.into(), ..self }
     }
 
-    /// The step to the block that this one is fixed to, each part from -1 to 1: `[0, -1, 0]` is the block below.
+    /// The ticks that the delay counts as.
+    pub(crate) fn delay_ticks(&self) -> u8 {
+        self.delay.unwrap_or(1).clamp(1, 4)
+    }
+
+    /// The support offset: the step to the block that this one is fixed to, each part from -1 to 1, `[0, -1, 0]` to
+    /// the one below. A lever, button or plate powers that block, and a torch goes out while it has power; where the
+    /// offset is missing, the one powers no block and the other stays lit. [`supports`](crate::supports) lists blocks
+    /// with no support to be fixed to.
     #[must_use]
     pub fn support(&self) -> Option<[i8; 3]> {
         self.support
@@ -243,7 +255,7 @@ impl Row {
             shape: SHAPE.coded(bytes)?,
             subtract: SUBTRACT.flag(bytes)?,
         };
-        UNUSED.iter().try_for_each(|field| field.zero(bytes, Allowed::Zero))?;
+        UNUSED.iter().try_for_each(|field| field.zero(bytes, Allowed::Rule("it must be 0")))?;
         Ok(row)
     }
 }

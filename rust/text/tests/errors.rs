@@ -30,7 +30,7 @@ fn errors_in_a_rows_position_and_kind() {
         ("0,0,2147483648 Solid", (1, 5), &number("2147483648")),
         ("0,,0 Solid", (1, 3), &format!("found nothing, expected {I32}")),
         ("0,0,0", (1, 6), "found nothing, expected a kind"),
-        ("0,0,0  # Solid", (1, 8), "found nothing, expected a kind"),
+        ("0,0,0  # Solid", (1, 6), "found nothing, expected a kind"),
         ("0,0,0 Levr", (1, 7), r#"found "Levr", expected a kind: did you mean Lever?"#),
         (
             "0,0,0 redstonewire",

@@ -89,8 +89,8 @@ fn redrawn(table: &[u8]) -> Vec<String> {
     dust.map(line).collect()
 }
 
-fn unsupported(rows: &[Row], listed: &[u16]) -> Vec<String> {
-    let line = |row: &u16| format!("unsupported={}", position_text(rows[usize::from(*row)].position()));
+fn unsupported(rows: &[Row], listed: &[usize]) -> Vec<String> {
+    let line = |row: &usize| format!("unsupported={}", position_text(rows[*row].position()));
     match listed {
         [] => vec!["unsupported=none".to_owned()],
         _ => listed.iter().map(line).collect(),

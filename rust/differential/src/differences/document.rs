@@ -1,5 +1,6 @@
 //! The document, read: its numbered headings, its tables, and the answers that are written under them.
 
+use std::collections::BTreeSet;
 use std::iter::from_fn;
 
 use redstone_text::{Line, Step, Table, lines};
@@ -57,7 +58,7 @@ pub enum Shown {
 const SHOWN: [(&str, Shown); 4] =
     [("row", Shown::Row), ("device", Shown::Device), ("lamp", Shown::Lamp), ("candidate", Shown::Candidate)];
 
-/// The tables of a document, of which it has at least one, and one under each numbered heading.
+/// The tables of a document, of which it has at least one, and one under the heading of each entry.
 pub fn examples(document: &str) -> Result<Vec<Example<'_>>, Fault> {
     let parts = parts(document)?;
     check_headings(&parts)?;
@@ -129,21 +130,27 @@ fn body<'a>(word: Line<'a>, lines: &mut impl Iterator<Item = Line<'a>>) -> Resul
     Err(Fault::at(word, "the block has no end"))
 }
 
-/// Headings of the fourth level are numbered from 1 on, and each has a table under it.
+/// Each entry has a number of its own, and a table under it.
 fn check_headings(parts: &[Part]) -> Result<(), Fault> {
-    let mut number = 0;
+    let mut numbers = BTreeSet::new();
     for (at, part) in parts.iter().enumerate() {
         let Part::Heading(line) = part else { continue };
-        let Some(title) = line.text.strip_prefix("#### ") else { continue };
-        number += 1;
-        if !title.starts_with(&format!("{number}. ")) {
-            return Err(Fault::at(*line, format!("the heading's number is to be {number}")));
+        let Some((number, _)) = entry(*line)? else { continue };
+        if !numbers.insert(number) {
+            return Err(Fault::at(*line, format!("the number {number} stands twice")));
         }
-        if !matches!(parts.get(at + 1), Some(Part::Block(_))) {
+        if !matches!(parts.get(at + 1), Some(Part::Block(block)) if block.word.text == TABLE) {
             return Err(Fault::at(*line, "no table stands under the heading"));
         }
     }
     Ok(())
+}
+
+/// The number and the title of an entry, if the line is the heading of one.
+pub fn entry(line: Line<'_>) -> Result<Option<(u32, &str)>, Fault> {
+    let Some(heading) = line.text.strip_prefix("### ") else { return Ok(None) };
+    let numbered = heading.split_once(". ").and_then(|(number, title)| Some((number.parse().ok()?, title)));
+    numbered.map(Some).ok_or_else(|| Fault::at(line, "the heading has no number"))
 }
 
 /// The table of a block, whose lines are to stand as they are printed, in any order.

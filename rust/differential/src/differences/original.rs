@@ -44,8 +44,9 @@ impl Bench for Original<'_> {
         self.oracle.answer(&WireQuery::Redraw).bytes(0)
     }
 
-    fn unsupported(&self) -> Vec<u16> {
+    fn unsupported(&self) -> Vec<usize> {
         let answer = self.oracle.answer(&WorldQuery::SupportIssues { entries: self.oracle.rows.len() });
-        answer.buffers[0].entries[..answer.number as usize].to_vec()
+        let listed = &answer.buffers[0].entries[..answer.number as usize];
+        listed.iter().map(|row| usize::from(*row)).collect()
     }
 }
