@@ -43,15 +43,13 @@ impl<'a> Line<'a> {
         Word { line: self.number, column: 1, text: self.text }
     }
 
-    /// The error of a line whose first word, up to a `=`, is none of these.
+    /// The error of a line whose first word, no more than its `=` counted, is none of these.
     #[must_use]
     pub fn unknown(self, known: &[&'static str]) -> Error {
         let mut words = self.words();
         let first = words.next().unwrap_or(words.rest);
-        first
-            .split_once('=')
-            .map_or(first, |(name, _)| name)
-            .unknown("a position or another first word", known)
+        let (name, _) = first.split_at(first.text.find('=').map_or(first.text.len(), |at| at + 1));
+        name.unknown("a position or another first word", known)
     }
 
     /// The error of a text that ends with this line and is not whole.
@@ -134,7 +132,7 @@ pub struct Word<'a> {
 }
 
 impl Word<'_> {
-    fn split_at(self, at: usize) -> (Self, Self) {
+    pub(crate) fn split_at(self, at: usize) -> (Self, Self) {
         let (before, after) = self.text.split_at(at);
         let column = self.column + before.chars().count();
         (Self { text: before, ..self }, Self { text: after, column, ..self })

@@ -118,14 +118,24 @@ fn errors_in_other_lines_of_a_table() {
         ("profile Solid=256", (1, 15), r#"found "256", expected a whole number from 0 to 255"#),
         ("profile Solid=1 Solid=1", (1, 17), r#"found "Solid" again, expected a kind that is not given yet"#),
         (
+            "profile=0,31,1",
+            (1, 1),
+            r#"found "profile=", expected a position or another first word: did you mean profile?"#,
+        ),
+        (
+            "blocks 3",
+            (1, 1),
+            r#"found "blocks", expected a position or another first word: did you mean blocks=?"#,
+        ),
+        (
             "block=1\n0,0,0 Solid\n",
             (1, 1),
-            r#"found "block", expected a position or another first word: did you mean blocks?"#,
+            r#"found "block=", expected a position or another first word: did you mean blocks=?"#,
         ),
         (
             "# Tür\n\ttick 3",
             (2, 2),
-            r#"found "tick", expected a position or another first word: profile or blocks"#,
+            r#"found "tick", expected a position or another first word: profile or blocks="#,
         ),
     ]);
 }
@@ -193,6 +203,6 @@ fn a_reader_tells_its_own_lines_and_where_each_row_stands() {
     let error = expect.unknown(&[TableReader::WORDS, Step::WORDS].concat());
     assert_eq!(
         (error.found(), error.known(), error.nearest()),
-        ("expect", &["profile", "blocks", "tick", "switch"][..], None)
+        ("expect", &["profile", "blocks=", "tick", "switch"][..], None)
     );
 }
