@@ -140,19 +140,43 @@ fn errors_in_other_lines_of_a_table() {
     ]);
 }
 
+/// A word is misspelt where few of its letters are wrong, and then the nearest is named.
+#[test]
+fn a_misspelt_word_has_its_nearest() {
+    let nearest = |kind: &str| {
+        let error = format!("0,0,0 {kind}").parse::<Table>().expect_err(kind);
+        error.nearest()
+    };
+    for (kind, meant) in [
+        ("lever", "Lever"),
+        ("Lveer", "Lever"),
+        ("Levers", "Lever"),
+        ("redstone_lamp", "RedstoneLamp"),
+        ("RedstneTrch", "RedstoneTorch"),
+        ("Compartor", "Comparator"),
+    ] {
+        assert_eq!(nearest(kind), Some(meant), "{kind}");
+    }
+    for kind in ["Le", "Stone", "Lamp", "Comprtr", "Tür"] {
+        assert_eq!(nearest(kind), None, "{kind}");
+    }
+}
+
 /// Columns count characters, of however many bytes.
 #[test]
-fn columns_are_of_characters() {
+fn words_have_their_places() {
+    let line = lines("one\n\tTür é=ü,Ü  3 # four").nth(1).expect("a line");
+    let words: Vec<_> = line.words().map(|word| (word.line, word.column, word.text)).collect();
+    assert_eq!(words, [(2, 2, "Tür"), (2, 6, "é=ü,Ü"), (2, 13, "3")]);
+    let field = line.words().nth(1).expect("a word");
+    let (name, value) = field.split_once('=').expect("a field");
+    let parts: Vec<_> =
+        [name].into_iter().chain(value.split(',')).map(|part| (part.column, part.text)).collect();
+    assert_eq!(parts, [(6, "é"), (8, "ü"), (10, "Ü")]);
     assert_table_errors(&[(
-        "0,0,0 Tür facing=East",
-        (1, 7),
-        "found \"Tür\", expected a kind: Solid, Transparent, RedstoneWire, RedstoneTorch, Repeater, Comparator, \
-         Lever, Button, PressurePlate, RedstoneLamp, RedstoneBlock or Piston",
-    )]);
-    assert_table_errors(&[(
-        "0,0,0 Solid arms=Tür:Up,East",
-        (1, 18),
-        r#"found "Tür", expected a side: North, East, South or West"#,
+        "blocks=0\n# Tür",
+        (2, 6),
+        "found the end of the text, expected the end of the line",
     )]);
 }
 
