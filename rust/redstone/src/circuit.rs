@@ -64,7 +64,7 @@ pub struct Block {
 pub struct Figures {
     /// The level that a source or device gives, or that dust has; 0 for other blocks.
     pub signal: u8,
-    /// The power that dust and strongly powered neighbours give to the block.
+    /// The power that dust, and strongly powered neighbours, give to the block.
     pub weak: u8,
     /// The power that levers, buttons, plates, repeaters, comparators and redstone blocks give to the block.
     pub strong: u8,
@@ -257,6 +257,7 @@ impl Circuit {
     }
 
     /// All blocks, in the order of their rows.
+    #[must_use]
     pub fn blocks(&self) -> impl DoubleEndedIterator<Item = Block> {
         (0..self.len()).filter_map(|number| self.block(number))
     }

@@ -156,14 +156,14 @@ impl Display for Fault {
     fn fmt(&self, f: &mut Formatter<'_>) -> fmt::Result {
         match *self {
             Self::ProfileLength { length } => {
-                write!(f, "the profile has {length} bytes; it must have {PROFILE_BYTES}")
+                write!(f, "the profile has length {length}; it must be {PROFILE_BYTES}")
             }
             Self::ProfileByte { kind, value, most } => {
                 let of = Kind::try_from(kind).map_or("Air", Kind::name);
                 write!(f, "byte {kind} of the profile, {of}'s, is {value}; it may be at most {most}")
             }
             Self::Ragged { length } => {
-                write!(f, "the table has {length} bytes; it must have {ROW_BYTES} for each row")
+                write!(f, "the table has length {length}; it must be {ROW_BYTES} for each row")
             }
             Self::Crowded { rows } => {
                 write!(f, "the table has {rows} rows; it may have at most {MOST_ROWS}")
@@ -180,29 +180,19 @@ impl Display for Fault {
                 write!(f, "row {row} at {at} comes after row {previous} at {before}; ")?;
                 write!(f, "the order is by x, then y, then z")
             }
-            Self::StateLength { buffer, length, expected } => {
-                write!(f, "the {buffer} has {length} bytes; for this table it must have {expected}")
+            Self::StateLength { buffer, length, expected } | Self::Column { buffer, length, expected } => {
+                write!(f, "the {buffer} has length {length}; for this table it must be {expected}")
             }
             Self::BadState { buffer, row, position, kind, field } => {
                 write!(f, "the {buffer}'s row {row}, of a {kind} at {}: {field}", At(position))
             }
-            Self::Column { buffer, length, expected } => {
-                write!(f, "the {buffer} has {length} entries; for this table it must have {expected}")
-            }
             Self::Unsettled { limit } => {
-                write!(
-                    f,
-                    "the table does not settle within {limit} rounds; {} are always enough",
-                    Rounds::MOST
-                )
+                let most = Rounds::MOST;
+                write!(f, "the table does not settle within a limit of {limit}; {most} is always enough")
             }
             Self::ClockEnd { tick, ticks } => {
-                let left = u32::MAX - tick;
-                write!(
-                    f,
-                    "{ticks} ticks from tick {tick} pass the last, {}; ask for at most {left}",
-                    u32::MAX
-                )
+                let (last, left) = (u32::MAX, u32::MAX - tick);
+                write!(f, "tick {tick} plus {ticks} is past {last}, the last; {left} more can be asked for")
             }
             Self::Unexplained { .. } => {
                 write!(

@@ -112,6 +112,11 @@ pub use field::BadField;
 pub use row::{Row, RowError};
 pub use table::{find, rows, table};
 
+/// The program in the README.
+#[cfg(doctest)]
+#[doc = include_str!("../../../README.md")]
+struct Readme;
+
 /// Bytes of a row of the table.
 pub const ROW_BYTES: usize = 32;
 /// Bytes of a row of a state.
@@ -130,11 +135,11 @@ pub const BENCH_PROFILE: [u8; PROFILE_BYTES] = [0, 31, 1, 0, 0, 0, 0, 0, 0, 0, 3
 /// The columns that a call fills, each of one byte for each row.
 #[derive(Debug)]
 pub struct Columns<'a> {
-    /// The level that a block gives, and a dust's own.
+    /// The level that a source or device gives, and a dust's own.
     pub signal: &'a mut [u8],
-    /// The power that dust, and strongly powered blocks beside, give to a block.
+    /// The power that dust, and strongly powered neighbours, give to a block.
     pub weak: &'a mut [u8],
-    /// The power that components give to a block.
+    /// The power that levers, buttons, plates, repeaters, comparators and redstone blocks give to a block.
     pub strong: &'a mut [u8],
 }
 
@@ -228,8 +233,9 @@ pub fn switch(
     answered(answer, || checks::switch(profile, table, state, &lengths)).map(Rounds)
 }
 
-/// Draws the arms of every dust anew, in the table itself: all four as they are inferred, and where one alone is left
-/// its opposite, too. An editor does so when a block is set or taken away; a table that stores no arms needs it not.
+/// Draws the arms of every dust anew, in the table itself: those that are inferred from what stands around it, and where
+/// that is one alone its opposite, too. An editor does so when a block is set or taken away. Dust whose arms are not
+/// stored settles with the inferred ones, without such an opposite.
 ///
 /// # Errors
 ///

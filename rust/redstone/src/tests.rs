@@ -4,8 +4,10 @@ mod circuit;
 mod faults;
 mod header;
 mod programs;
+mod repository;
 mod rows;
 mod rules;
+mod run_script;
 
 use crate::Columns;
 

@@ -33,19 +33,23 @@ impl<'a> Line<'a> {
     /// The words of the line, which a comment ends.
     #[must_use]
     pub fn words(self) -> Words<'a> {
-        let text = self.text.split(COMMENT).next().unwrap_or_default();
-        Words { rest: Word { line: self.number, column: 1, text } }
+        let whole = self.whole();
+        Words { rest: whole.split_once(COMMENT).map_or(whole, |(before, _)| before) }
     }
 
-    /// The error of a line whose first word, up to a `=`, is none of these.
+    /// The whole line as one word, its comment with it.
+    #[must_use]
+    pub fn whole(self) -> Word<'a> {
+        Word { line: self.number, column: 1, text: self.text }
+    }
+
+    /// The error of a line whose first word, no more than its `=` counted, is none of these.
     #[must_use]
     pub fn unknown(self, known: &[&'static str]) -> Error {
         let mut words = self.words();
         let first = words.next().unwrap_or(words.rest);
-        first
-            .split_once('=')
-            .map_or(first, |(name, _)| name)
-            .unknown("a position or another first word", known)
+        let (name, _) = first.split_at(first.text.find('=').map_or(first.text.len(), |at| at + 1));
+        name.unknown("a position or another first word", known)
     }
 
     /// The error of a text that ends with this line and is not whole.
@@ -109,9 +113,7 @@ impl<'a> Iterator for Words<'a> {
     type Item = Word<'a>;
 
     fn next(&mut self) -> Option<Word<'a>> {
-        let text = self.rest.text;
-        let start = text.find(|letter| !BLANKS.contains(&letter)).unwrap_or(text.len());
-        let (_, rest) = self.rest.split_at(start);
+        let rest = self.rest.trim();
         let (word, rest) = rest.split_at(rest.text.find(BLANKS).unwrap_or(rest.text.len()));
         self.rest = rest;
         (!word.text.is_empty()).then_some(word)
@@ -130,10 +132,18 @@ pub struct Word<'a> {
 }
 
 impl Word<'_> {
-    fn split_at(self, at: usize) -> (Self, Self) {
+    pub(crate) fn split_at(self, at: usize) -> (Self, Self) {
         let (before, after) = self.text.split_at(at);
         let column = self.column + before.chars().count();
         (Self { text: before, ..self }, Self { text: after, column, ..self })
+    }
+
+    /// The word without the blanks around it.
+    #[must_use]
+    pub fn trim(self) -> Self {
+        let blanks = self.text.len() - self.text.trim_start_matches(BLANKS).len();
+        let (_, rest) = self.split_at(blanks);
+        Self { text: rest.text.trim_end_matches(BLANKS), ..rest }
     }
 
     /// The parts before and after the first mark.

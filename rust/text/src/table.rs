@@ -25,6 +25,21 @@ pub struct Table {
 }
 
 impl Table {
+    /// Reads lines of which each is a table's.
+    ///
+    /// # Errors
+    ///
+    /// One is not, or they are no whole table.
+    pub fn read<'a>(lines: impl IntoIterator<Item = Line<'a>>) -> Result<Self, Error> {
+        let mut reader = TableReader::new();
+        for line in lines {
+            if !reader.read(line)? {
+                return Err(line.unknown(TableReader::WORDS));
+            }
+        }
+        reader.table()
+    }
+
     /// The number of the row at a position.
     #[must_use]
     pub fn find(&self, position: [i32; 3]) -> Option<usize> {
@@ -37,16 +52,11 @@ impl FromStr for Table {
     type Err = Error;
 
     fn from_str(text: &str) -> Result<Self, Error> {
-        let mut reader = TableReader::new();
-        for line in lines(text) {
-            if !reader.read(line)? {
-                return Err(line.unknown(TableReader::WORDS));
-            }
-        }
-        reader.table()
+        Self::read(lines(text))
     }
 }
 
+/// Writes the shortest text that is read as this table, with the number of its rows.
 impl Display for Table {
     fn fmt(&self, f: &mut Formatter<'_>) -> fmt::Result {
         if self.profile != BENCH_PROFILE {
@@ -59,13 +69,13 @@ impl Display for Table {
             }
             writeln!(f)?;
         }
-        writeln!(f, "{BLOCKS}={}", self.rows.len())?;
+        writeln!(f, "{BLOCKS}{}", self.rows.len())?;
         self.rows.iter().try_for_each(|row| writeln!(f, "{}", row_text(row)))
     }
 }
 
 const PROFILE: &str = "profile";
-const BLOCKS: &str = "blocks";
+const BLOCKS: &str = "blocks=";
 
 /// Reads a table line by line.
 #[derive(Clone, Debug, Default)]
@@ -102,8 +112,8 @@ impl<'a> TableReader<'a> {
             self.read_row(first, line)?;
         } else if first.text == PROFILE {
             self.read_profile(first, words)?;
-        } else if let Some((BLOCKS, number)) = first.split_once('=').map(|(name, value)| (name.text, value)) {
-            self.read_blocks(first, number, words)?;
+        } else if first.text.starts_with(BLOCKS) {
+            self.read_blocks(first, words)?;
         } else {
             return Ok(false);
         }
@@ -129,8 +139,9 @@ impl<'a> TableReader<'a> {
         Ok(())
     }
 
-    fn read_blocks(&mut self, first: Word, number: Word<'a>, mut words: Words) -> Result<(), Error> {
+    fn read_blocks(&mut self, first: Word<'a>, mut words: Words) -> Result<(), Error> {
         self.check_before_rows(first, self.blocks.is_some())?;
+        let (_, number) = first.split_at(BLOCKS.len());
         self.blocks = Some((number.number(0..=usize::MAX)?, number));
         words.end()
     }
@@ -163,7 +174,7 @@ impl<'a> TableReader<'a> {
         let last = self.last.unwrap_or(Line { number: 1, text: "", is_ended: true });
         match self.blocks {
             None if rows.is_empty() => Err(last.end_of_text("a row, or blocks=0")),
-            Some((_, _)) if !last.is_ended => Err(last.end_of_text("the end of the line")),
+            Some(_) if !last.is_ended => Err(last.end_of_text("the end of the line")),
             Some((blocks, number)) if blocks != rows.len() => {
                 Err(number.expected(format!("{}, the number of rows that there are", rows.len())))
             }

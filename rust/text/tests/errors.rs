@@ -30,7 +30,7 @@ fn errors_in_a_rows_position_and_kind() {
         ("0,0,2147483648 Solid", (1, 5), &number("2147483648")),
         ("0,,0 Solid", (1, 3), &format!("found nothing, expected {I32}")),
         ("0,0,0", (1, 6), "found nothing, expected a kind"),
-        ("0,0,0  # Solid", (1, 8), "found nothing, expected a kind"),
+        ("0,0,0  # Solid", (1, 6), "found nothing, expected a kind"),
         ("0,0,0 Levr", (1, 7), r#"found "Levr", expected a kind: did you mean Lever?"#),
         (
             "0,0,0 redstonewire",
@@ -118,31 +118,65 @@ fn errors_in_other_lines_of_a_table() {
         ("profile Solid=256", (1, 15), r#"found "256", expected a whole number from 0 to 255"#),
         ("profile Solid=1 Solid=1", (1, 17), r#"found "Solid" again, expected a kind that is not given yet"#),
         (
+            "profile=0,31,1",
+            (1, 1),
+            r#"found "profile=", expected a position or another first word: did you mean profile?"#,
+        ),
+        (
+            "blocks 3",
+            (1, 1),
+            r#"found "blocks", expected a position or another first word: did you mean blocks=?"#,
+        ),
+        (
             "block=1\n0,0,0 Solid\n",
             (1, 1),
-            r#"found "block", expected a position or another first word: did you mean blocks?"#,
+            r#"found "block=", expected a position or another first word: did you mean blocks=?"#,
         ),
         (
             "# Tür\n\ttick 3",
             (2, 2),
-            r#"found "tick", expected a position or another first word: profile or blocks"#,
+            r#"found "tick", expected a position or another first word: profile or blocks="#,
         ),
     ]);
 }
 
+/// A word is misspelt where few of its letters are wrong, and then the nearest is named.
+#[test]
+fn a_misspelt_word_has_its_nearest() {
+    let nearest = |kind: &str| {
+        let error = format!("0,0,0 {kind}").parse::<Table>().expect_err(kind);
+        error.nearest()
+    };
+    for (kind, meant) in [
+        ("lever", "Lever"),
+        ("Lveer", "Lever"),
+        ("Levers", "Lever"),
+        ("redstone_lamp", "RedstoneLamp"),
+        ("RedstneTrch", "RedstoneTorch"),
+        ("Compartor", "Comparator"),
+    ] {
+        assert_eq!(nearest(kind), Some(meant), "{kind}");
+    }
+    for kind in ["Le", "Stone", "Lamp", "Comprtr", "Tür"] {
+        assert_eq!(nearest(kind), None, "{kind}");
+    }
+}
+
 /// Columns count characters, of however many bytes.
 #[test]
-fn columns_are_of_characters() {
+fn words_have_their_places() {
+    let line = lines("one\n\tTür é=ü,Ü  3 # four").nth(1).expect("a line");
+    let words: Vec<_> = line.words().map(|word| (word.line, word.column, word.text)).collect();
+    assert_eq!(words, [(2, 2, "Tür"), (2, 6, "é=ü,Ü"), (2, 13, "3")]);
+    let field = line.words().nth(1).expect("a word");
+    let (name, value) = field.split_once('=').expect("a field");
+    let parts: Vec<_> =
+        [name].into_iter().chain(value.split(',')).map(|part| (part.column, part.text)).collect();
+    assert_eq!(parts, [(6, "é"), (8, "ü"), (10, "Ü")]);
     assert_table_errors(&[(
-        "0,0,0 Tür facing=East",
-        (1, 7),
-        "found \"Tür\", expected a kind: Solid, Transparent, RedstoneWire, RedstoneTorch, Repeater, Comparator, \
-         Lever, Button, PressurePlate, RedstoneLamp, RedstoneBlock or Piston",
-    )]);
-    assert_table_errors(&[(
-        "0,0,0 Solid arms=Tür:Up,East",
-        (1, 18),
-        r#"found "Tür", expected a side: North, East, South or West"#,
+        "blocks=0\n# Tür",
+        (2, 6),
+        "found the end of the text, expected the end of the line",
     )]);
 }
 
@@ -193,6 +227,6 @@ fn a_reader_tells_its_own_lines_and_where_each_row_stands() {
     let error = expect.unknown(&[TableReader::WORDS, Step::WORDS].concat());
     assert_eq!(
         (error.found(), error.known(), error.nearest()),
-        ("expect", &["profile", "blocks", "tick", "switch"][..], None)
+        ("expect", &["profile", "blocks=", "tick", "switch"][..], None)
     );
 }

@@ -61,14 +61,19 @@ fn every_row_is_equal_after_it_is_written_and_read() {
     }
 }
 
-/// What is left without any one letter is another row or none.
+/// What is left without any one letter, or any one word, is another row or none.
 #[test]
-fn no_letter_of_a_row_is_too_many() {
+fn no_letter_and_no_word_of_a_row_is_too_many() {
     for row in rows().into_iter().step_by(97).chain(single_fields()) {
         let text = row_text(&row);
         for at in 0..text.len() {
             let shorter = [&text[..at], &text[at + 1..]].concat();
             assert_ne!(read(&shorter), Some(row), "{text} and {shorter}");
+        }
+        let words: Vec<_> = text.split(' ').collect();
+        for at in 0..words.len() {
+            let fewer = [&words[..at], &words[at + 1..]].concat();
+            assert_ne!(read(&fewer.join(" ")), Some(row), "{text} without {}", words[at]);
         }
     }
 }

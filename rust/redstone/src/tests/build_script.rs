@@ -1,11 +1,11 @@
 //! The build script, run by itself on small repositories with an `rt` that writes what a test wants.
 
-use std::fs::{self, File};
-use std::os::unix::fs::PermissionsExt;
+use std::fs;
 use std::path::{Path, PathBuf};
 use std::process::{Command, Output};
 use std::sync::OnceLock;
-use std::time::{Duration, SystemTime};
+
+use super::repository::Repository;
 
 /// The build script as a program.
 fn script() -> &'static Path {
@@ -21,65 +21,15 @@ fn script() -> &'static Path {
     })
 }
 
-/// A repository with two crates of the library and one that is not of it.
-struct Repository {
-    root: PathBuf,
-}
-
-impl Repository {
-    fn new(name: &str) -> Self {
-        let root = Path::new(env!("OUT_DIR")).join("repositories").join(name);
-        let _ = fs::remove_dir_all(&root);
-        let repository = Self { root };
-        repository.write("crates.txt", "# The library.\nworld:\nredstone: world\nbook: redstone\n");
-        for name in ["world", "redstone", "book"] {
-            repository.write(&format!("crates/{name}/src/lib.rt"), "");
-        }
-        repository.write("rust/redstone/Cargo.toml", "");
-        fs::create_dir_all(repository.path("bin")).expect("a folder");
-        repository
-    }
-
-    fn path(&self, name: &str) -> PathBuf {
-        self.root.join(name)
-    }
-
-    fn write(&self, name: &str, content: &str) {
-        let path = self.path(name);
-        fs::create_dir_all(path.parent().expect("a folder")).expect("a folder");
-        fs::write(path, content).expect("a file");
-    }
-
-    /// A library that was built so many seconds from now.
-    fn library(&self, name: &str, seconds: i64) {
-        self.write(name, "");
-        let length = Duration::from_secs(seconds.unsigned_abs());
-        let now = SystemTime::now();
-        let time = if seconds < 0 { now - length } else { now + length };
-        let file = File::options().append(true).open(self.path(name)).expect("a file");
-        file.set_modified(time).expect("a time");
-    }
-
-    /// An `rt` that does this.
-    fn rt(&self, does: &str) {
-        self.write("bin/rt", &format!("#!/bin/sh\necho \"$*\" >called\n{does}\n"));
-        let rt = self.path("bin/rt");
-        fs::set_permissions(rt, fs::Permissions::from_mode(0o755)).expect("a program");
-    }
-
-    fn called(&self) -> Option<String> {
-        fs::read_to_string(self.path("called")).ok()
-    }
-
-    fn command(&self) -> Command {
-        let mut command = Command::new(script());
-        command.env_clear().current_dir(self.path("rust/redstone"));
-        command.env("PATH", format!("{}:/usr/bin:/bin", self.path("bin").display()));
-        command.env("CARGO_MANIFEST_DIR", self.path("rust/redstone"));
-        command.env("TARGET", "x86_64-unknown-linux-gnu").env("CARGO_CFG_TARGET_POINTER_WIDTH", "64");
-        command.env("CARGO_CFG_TARGET_ARCH", "x86_64").env("CARGO_CFG_TARGET_OS", "linux");
-        command
-    }
+/// The script in a repository's package, with what cargo tells it.
+fn command(repository: &Repository) -> Command {
+    let mut command = Command::new(script());
+    command.env_clear().current_dir(repository.path("rust/redstone"));
+    command.env("PATH", repository.search_path());
+    command.env("CARGO_MANIFEST_DIR", repository.path("rust/redstone"));
+    command.env("TARGET", "x86_64-unknown-linux-gnu").env("CARGO_CFG_TARGET_POINTER_WIDTH", "64");
+    command.env("CARGO_CFG_TARGET_ARCH", "x86_64").env("CARGO_CFG_TARGET_OS", "linux");
+    command
 }
 
 const IN_TARGET: &str = "target/staticlib/libredstone.a";
@@ -114,8 +64,8 @@ fn sentence(output: &Output) -> String {
 fn a_library_newer_than_its_crates_is_linked_as_it_is() {
     let repository = Repository::new("newer");
     repository.rt(BUILDS);
-    repository.library(IN_TARGET, 60);
-    assert_eq!(linked(&run(&mut repository.command())), repository.path("target/staticlib"));
+    repository.write_at(IN_TARGET, 60);
+    assert_eq!(linked(&run(&mut command(&repository))), repository.path("target/staticlib"));
     assert_eq!(repository.called(), None);
 }
 
@@ -125,9 +75,9 @@ fn a_missing_or_stale_library_is_built_and_the_progress_shown() {
         let repository = Repository::new(name);
         repository.rt(BUILDS);
         if let Some(seconds) = seconds {
-            repository.library(IN_TARGET, seconds);
+            repository.write_at(IN_TARGET, seconds);
         }
-        let output = run(&mut repository.command());
+        let output = run(&mut command(&repository));
         assert_eq!(linked(&output), repository.path("target/staticlib"));
         assert_eq!(repository.called().as_deref(), Some("staticlib redstone\n"));
         let (_, errors) = texts(&output);
@@ -140,12 +90,12 @@ fn a_missing_or_stale_library_is_built_and_the_progress_shown() {
 fn a_crate_that_the_library_is_not_made_of_makes_it_not_stale() {
     let repository = Repository::new("other");
     repository.rt(BUILDS);
-    repository.library(IN_TARGET, 60);
-    repository.library("crates/book/src/lib.rt", 120);
-    linked(&run(&mut repository.command()));
+    repository.write_at(IN_TARGET, 60);
+    repository.write_at("crates/book/src/lib.rt", 120);
+    linked(&run(&mut command(&repository)));
     assert_eq!(repository.called(), None);
-    repository.library("crates/world/src/lib.rt", 120);
-    let output = run(&mut repository.command());
+    repository.write_at("crates/world/src/lib.rt", 120);
+    let output = run(&mut command(&repository));
     assert!(sentence(&output).contains("crates/world/src/lib.rt changed while"), "{output:?}");
     assert!(repository.called().is_some());
 }
@@ -153,21 +103,21 @@ fn a_crate_that_the_library_is_not_made_of_makes_it_not_stale() {
 #[test]
 fn a_library_that_cannot_be_built_is_not_linked() {
     let repository = Repository::new("no_rt");
-    repository.library(IN_TARGET, -60);
-    let output = run(repository.command().env("PATH", repository.path("bin")));
+    repository.write_at(IN_TARGET, -60);
+    let output = run(command(&repository).env("PATH", repository.path("bin")));
     let text = sentence(&output);
     assert!(text.contains(" is newer than ") && text.contains("install the Rattle kit"), "{text}");
 
     repository.rt("echo 'it is not proved'; exit 1");
-    let output = run(&mut repository.command());
+    let output = run(&mut command(&repository));
     assert!(sentence(&output).starts_with("`rt staticlib redstone` failed in "));
     assert!(texts(&output).1.contains("it is not proved"));
 
     repository.rt("rm -r target");
-    assert!(sentence(&run(&mut repository.command())).contains("is not there"));
+    assert!(sentence(&run(&mut command(&repository))).contains("is not there"));
 
     fs::remove_file(repository.path("crates.txt")).expect("a file");
-    let text = sentence(&run(&mut repository.command()));
+    let text = sentence(&run(&mut command(&repository)));
     assert!(text.contains("has no crates.txt: set REDSTONE_LIB"), "{text}");
 }
 
@@ -176,23 +126,23 @@ fn a_library_that_cannot_be_built_is_not_linked() {
 fn a_named_folder_is_found_from_where_the_caller_stands() {
     let repository = Repository::new("named");
     repository.rt(BUILDS);
-    repository.library("given/libredstone.a", 60);
+    repository.write_at("given/libredstone.a", 60);
     let here = std::env::current_dir().expect("a folder");
     let above = here.ancestors().skip(1).map(|_| "..").collect::<PathBuf>();
     let below = repository.root.strip_prefix("/").expect("a path from the root");
     let relative = above.join(below).join("given");
-    let output = run(repository.command().env("REDSTONE_LIB", &relative));
+    let output = run(command(&repository).env("REDSTONE_LIB", &relative));
     assert_eq!(fs::canonicalize(linked(&output)).ok(), fs::canonicalize(repository.path("given")).ok());
     assert!(!texts(&output).0.contains("cargo:warning="), "{output:?}");
     assert_eq!(repository.called(), None);
 
-    repository.library("given/libredstone.a", -60);
-    let output = run(repository.command().env("REDSTONE_LIB", repository.path("given")));
+    repository.write_at("given/libredstone.a", -60);
+    let output = run(command(&repository).env("REDSTONE_LIB", repository.path("given")));
     assert_eq!(linked(&output), repository.path("given"));
     let (text, _) = texts(&output);
     assert!(text.contains("cargo:warning=") && text.contains(" is newer than "), "{text}");
 
-    let text = sentence(&run(repository.command().env("REDSTONE_LIB", "nowhere")));
+    let text = sentence(&run(command(&repository).env("REDSTONE_LIB", "nowhere")));
     let tried = here.join("nowhere/libredstone.a");
     assert!(text.contains(&format!("there is no {}", tried.display())), "{text}");
 }
@@ -200,13 +150,13 @@ fn a_named_folder_is_found_from_where_the_caller_stands() {
 #[test]
 fn other_targets_are_refused_in_a_sentence() {
     let repository = Repository::new("targets");
-    repository.library(IN_TARGET, 60);
+    repository.write_at(IN_TARGET, 60);
     for (variable, value) in [
         ("CARGO_CFG_TARGET_ARCH", "aarch64"),
         ("CARGO_CFG_TARGET_OS", "macos"),
         ("CARGO_CFG_TARGET_POINTER_WIDTH", "32"),
     ] {
-        let output = run(repository.command().env(variable, value).env("TARGET", "another-target"));
+        let output = run(command(&repository).env(variable, value).env("TARGET", "another-target"));
         assert_eq!(
             sentence(&output),
             "The proved library is for x86-64 Linux alone, and this build is for another-target: build for \

@@ -229,7 +229,7 @@ fn message(change: impl FnOnce(&mut Input)) -> String {
 
 #[test]
 fn each_reason_says_what_is_wrong_and_what_would_be_right() {
-    assert_eq!(message(|input| input.profile.truncate(12)), "the profile has 12 bytes; it must have 13");
+    assert_eq!(message(|input| input.profile.truncate(12)), "the profile has length 12; it must be 13");
     assert_eq!(
         message(|input| input.profile[3] = 32),
         "byte 3 of the profile, RedstoneWire's, is 32; it may be at most 31"
@@ -238,7 +238,7 @@ fn each_reason_says_what_is_wrong_and_what_would_be_right() {
         message(|input| input.profile[0] = 1),
         "byte 0 of the profile, Air's, is 1; it may be at most 0"
     );
-    assert_eq!(message(|input| input.table.push(0)), "the table has 65 bytes; it must have 32 for each row");
+    assert_eq!(message(|input| input.table.push(0)), "the table has length 65; it must be 32 for each row");
     assert_eq!(
         message(|input| input.table.resize(32 * 1025, 0)),
         "the table has 1025 rows; it may have at most 1024"
@@ -255,17 +255,14 @@ fn each_reason_says_what_is_wrong_and_what_would_be_right() {
     assert_eq!(message(same), "rows 0 and 1 are both at 0,0,0; each position may be there once");
     assert_eq!(
         message(|input| input.devices.push(0)),
-        "the device column has 3 bytes; for this table it must have 2"
+        "the device column has length 3; for this table it must be 2"
     );
     assert_eq!(
         message(|input| input.devices[1] = 9),
         "the device column's row 1, of a RedstoneLamp at 1,2,3: device (byte 0) is 9; it must be 0, as the row is \
          no repeater, torch or comparator"
     );
-    assert_eq!(
-        message(|input| input.state.push(0)),
-        "the state has 33 bytes; for this table it must have 32"
-    );
+    assert_eq!(message(|input| input.state.push(0)), "the state has length 33; for this table it must be 32");
     assert_eq!(
         message(|input| input.state[1] = 4),
         "the state's row 0, of a Repeater at 0,0,0: queue (byte 1) is 4; it may be from 0 to 3"
@@ -277,20 +274,20 @@ fn each_reason_says_what_is_wrong_and_what_would_be_right() {
     );
     assert_eq!(
         message(|input| input.columns[1] = 1),
-        "the weak column has 1 entries; for this table it must have 2"
+        "the weak column has length 1; for this table it must be 2"
     );
-    assert_eq!(message(|input| input.fresh = 2), "the state has 2 entries; for this table it must have 32");
+    assert_eq!(message(|input| input.fresh = 2), "the state has length 2; for this table it must be 32");
     assert_eq!(
         message(|input| input.list = 3),
-        "the column of rows has 3 entries; for this table it must have 2"
+        "the column of rows has length 3; for this table it must be 2"
     );
     assert_eq!(
         message(|input| input.limit = 1),
-        "the table does not settle within 1 rounds; 17 are always enough"
+        "the table does not settle within a limit of 1; 17 is always enough"
     );
     assert_eq!(
         message(|input| input.tick = u32::MAX),
-        "1 ticks from tick 4294967295 pass the last, 4294967295; ask for at most 0"
+        "tick 4294967295 plus 1 is past 4294967295, the last; 0 more can be asked for"
     );
 }
 
