@@ -36,7 +36,7 @@ pub fn chart(run: &Run) -> String {
         text.push('\n');
     }
     text += LEGEND;
-    if lanes.iter().any(|lane| lane.has_levels) {
+    if lanes.iter().any(Lane::has_levels) {
         text += LEGEND_OF_LEVELS;
     }
     text
@@ -60,7 +60,7 @@ fn digit(number: usize) -> char {
 /// The sign of a lane at a tick.
 fn sign(lane: &Lane, tick: usize) -> char {
     let (value, changes) = (lane.values[tick], lane.changes_at(tick));
-    match (lane.has_levels, value, changes) {
+    match (lane.has_levels(), value, changes) {
         (true, _, false) if !tick.is_multiple_of(TICKS_SIDE_BY_SIDE) => '=',
         (true, ..) => level_digit(value),
         (false, 0, false) => '.',
@@ -74,4 +74,46 @@ fn sign(lane: &Lane, tick: usize) -> char {
 #[must_use]
 pub fn level_digit(level: u8) -> char {
     char::from_digit(level.into(), 16).unwrap_or('+')
+}
+
+#[cfg(test)]
+mod tests {
+    use super::*;
+    use crate::Hall;
+
+    fn chart_of(text: &str, ticks: u32) -> String {
+        let hall = Hall::from_text("a.hall", text, None).expect("a hall");
+        chart(&Run::new(&hall, ticks).expect("an accepted table"))
+    }
+
+    #[test]
+    fn a_line_a_device_and_a_sign_a_tick() {
+        let text = "0,0,0 PressurePlate level=11\n1,0,0 Comparator facing=East\n9,0,0 RedstoneTorch\n\
+                    9,0,1 Comparator facing=South level=200\nswitch tick 2 0,0,0 on\nswitch tick 4 0,0,0 off\n";
+        let lines = [
+            "                  0         1",
+            "tick              012345678901",
+            "plate 0,0,0       ../-\\.......",
+            "torch 9,0,0       ------------",
+            "comparator 1,0,0  0==b=0======",
+            "comparator 9,0,1  +f==========",
+            "",
+            LEGEND.trim_end(),
+            LEGEND_OF_LEVELS,
+        ];
+        assert_eq!(chart_of(text, 11), lines.join("\n"));
+    }
+
+    #[test]
+    fn a_long_run_stands_in_parts() {
+        let chart = chart_of("0,0,0 Lever\n1,0,0 RedstoneLamp\n", 120);
+        let heads: Vec<_> = chart.lines().filter(|line| line.starts_with("tick")).map(str::len).collect();
+        assert_eq!(heads, [62, 62, 33]);
+        assert!(chart.contains("            10        11        12\n"), "{chart}");
+    }
+
+    #[test]
+    fn no_device_is_said() {
+        assert_eq!(chart_of("0,0,0 Solid\n", 3), "There is no repeater, torch, comparator or lamp.\n");
+    }
 }

@@ -10,6 +10,7 @@ use redstone::Refusal;
 use redstone_text::Word;
 
 use crate::commands::COMMANDS;
+use crate::nearest::nearest;
 use crate::output::unwritten;
 use crate::run::Run;
 use crate::{DEFAULT_TICKS, Hall, MOST_SHOWN_TICKS, Refused, input};
@@ -222,15 +223,15 @@ impl Arguments {
 
 impl Command {
     fn choice(&self, name: &str) -> Result<&'static Choice, Failure> {
-        let known = self.options.iter().map(|choice| (choice.name, *choice));
-        let own = format!("an option of `hall {}`", self.name);
-        Word { line: 1, column: 1, text: name }.one_of(&own, known).map_err(|error| {
-            Failure::sentence(match (error.nearest(), self.options) {
-                (Some(nearest), _) => format!("{name} is not {own}: did you mean {nearest}?"),
-                (None, []) => format!("{name} is not {own}, which has none"),
-                (None, _) => format!("{name} is not {own}: see `hall {} --help`", self.name),
-            })
-        })
+        if let Some(choice) = self.options.iter().find(|choice| choice.name == name) {
+            return Ok(choice);
+        }
+        let start = format!("{name} is not an option of `hall {}`", self.name);
+        Err(Failure::sentence(match nearest(name, self.options.iter().map(|choice| choice.name)) {
+            Some((nearest, true)) => format!("{start}: did you mean {nearest}?"),
+            Some((_, false)) => format!("{start}: see `hall {} --help`", self.name),
+            None => format!("{start}, which has none"),
+        }))
     }
 
     /// What `--help` says.
@@ -320,11 +321,15 @@ fn dispatch(words: Vec<OsString>, out: &mut dyn Write) -> Result<Status, Failure
 
 /// The command of a name.
 fn command(name: &str) -> Result<&'static Command, Failure> {
-    let known = COMMANDS.iter().map(|command| (command.name, *command));
-    Word { line: 1, column: 1, text: name }.one_of("a command", known).map_err(|error| {
-        Failure::sentence(match error.nearest() {
-            Some(nearest) => format!("there is no command `{name}`: did you mean `hall {nearest}`?"),
-            None => format!("there is no command `{name}`: `hall --help` lists them"),
-        })
-    })
+    if let Some(command) = COMMANDS.iter().find(|command| command.name == name) {
+        return Ok(command);
+    }
+    let start = format!("there is no command `{name}`");
+    Err(Failure::sentence(match nearest(name, COMMANDS.iter().map(|command| command.name)) {
+        Some((nearest, true)) => format!("{start}: did you mean `hall {nearest}`?"),
+        Some((nearest, false)) => {
+            format!("{start}: the nearest is `hall {nearest}`, and `hall --help` lists all")
+        }
+        None => start,
+    }))
 }

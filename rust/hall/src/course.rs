@@ -59,3 +59,32 @@ impl Course {
         &self.circuit
     }
 }
+
+#[cfg(test)]
+mod tests {
+    use crate::Hall;
+
+    const HALL: &str = "0,0,0 Lever\n1,0,0 Repeater facing=East delay=2\n2,0,0 RedstoneLamp\n\
+                        switch tick 7 0,0,0 off\nswitch tick 3 0,0,0 off\nswitch tick 3 0,0,0 on\n";
+
+    /// However far a step is, and in whatever order the switches are given: those of one tick in the order of their lines.
+    #[test]
+    fn one_long_step_is_as_many_short_ones() {
+        let hall = Hall::from_text("a.hall", HALL, None).expect("a hall");
+        let mut single = hall.course().expect("a course");
+        for tick in 0..20 {
+            let mut long = hall.course().expect("a course");
+            assert_eq!(
+                long.move_to(tick).expect("a tick"),
+                single.move_to(tick).expect("a tick"),
+                "tick {tick}"
+            );
+        }
+        let mut course = hall.course().expect("a course");
+        let powered =
+            |circuit: &redstone::Circuit| circuit.at([0, 0, 0]).and_then(|block| block.row.powered());
+        assert_eq!(powered(course.move_to(3).expect("a tick")), Some(true));
+        assert_eq!(powered(course.move_to(9).expect("a tick")), Some(false));
+        assert_eq!(course.move_to(4).expect("a tick past").tick_number(), 9);
+    }
+}

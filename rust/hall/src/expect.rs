@@ -2,9 +2,10 @@
 
 use std::fmt::{self, Display, Formatter};
 
-use redstone::{Block, Circuit, Device, Kind, Refusal, Rounds, Row};
+use redstone::{Block, Circuit, Kind, Refusal, Rounds, Row};
 use redstone_text::{Error, Line, Word, Words, position_text};
 
+use crate::device::{given, is_candidate};
 use crate::hall::Hall;
 use crate::name::Position;
 use crate::switch::{not_there, row_at};
@@ -55,7 +56,7 @@ const SUBJECTS: &[Subject] = &[
         word: "candidate",
         kind: Some(Kind::RedstoneTorch),
         values: Values::Words(["no", "yes"]),
-        given: |block| matches!(block.device, Device::Torch { candidate: true, .. }).into(),
+        given: |block| is_candidate(block.device).into(),
     },
     Subject {
         word: "comparator",
@@ -67,7 +68,7 @@ const SUBJECTS: &[Subject] = &[
         word: "lamp",
         kind: Some(Kind::RedstoneLamp),
         values: Values::Words(["dark", "lit"]),
-        given: |block| matches!(block.device, Device::Lamp { lit: true, .. }).into(),
+        given: |block| given(block.device).unwrap_or_default(),
     },
     Subject {
         word: "signal",
@@ -120,15 +121,15 @@ impl Expectation {
     pub(crate) fn read(line: Line<'_>) -> Result<Placed<'_>, Error> {
         let mut words = line.words();
         words.expect(EXPECT)?;
-        let mut first = words.expect("what is expected")?;
+        let mut first = words.expect("a figure")?;
         let mut tick = 0;
         if first.text == "tick" {
             tick = words.expect("a tick's number")?.number(0..=MOST_TICKS)?;
-            first = words.expect("what is expected")?;
+            first = words.expect("a figure")?;
         }
         let subjects = SUBJECTS.iter().map(|subject| (subject.word, Some(subject)));
         let known = [(ROUNDS, None), (BLOCKS, None), ("tick", None)];
-        let subject = first.one_of("what is expected", subjects.chain(known))?;
+        let subject = first.one_of("a figure", subjects.chain(known))?;
         let (about, value, place) = match (subject, first.text) {
             (Some(subject), _) => {
                 let place = words.expect("a position x,y,z")?;
@@ -137,7 +138,7 @@ impl Expectation {
             }
             (None, ROUNDS) => (About::Rounds, number(&mut words, Rounds::MOST)?, None),
             (None, BLOCKS) => (About::Blocks, number(&mut words, u32::MAX)?, None),
-            (None, _) => return Err(first.again("what is expected at this tick")),
+            (None, _) => return Err(first.again("a figure")),
         };
         words.end()?;
         Ok(Placed { expectation: Self { line: line.number, tick, about, value }, place })

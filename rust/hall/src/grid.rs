@@ -92,3 +92,47 @@ fn width(range: &RangeInclusive<i32>) -> i64 {
 fn range(numbers: impl Iterator<Item = i32> + Clone) -> RangeInclusive<i32> {
     numbers.clone().min().unwrap_or(0)..=numbers.max().unwrap_or(0)
 }
+
+#[cfg(test)]
+mod tests {
+    use redstone::Kind;
+
+    use super::*;
+
+    fn layers_of(positions: &[Position]) -> Vec<(i32, RangeInclusive<i32>, RangeInclusive<i32>, usize)> {
+        let rows: Vec<_> = positions.iter().map(|position| Row::new(Kind::Solid, *position)).collect();
+        layers(&rows).into_iter().map(|layer| (layer.y, layer.xs, layer.zs, layer.cells.len())).collect()
+    }
+
+    #[test]
+    fn layers_share_their_extent() {
+        let layers = layers_of(&[[0, 0, 0], [2, 1, 3], [5, 1, -1]]);
+        assert_eq!(layers, [(0, 0..=5, -1..=3, 1), (1, 0..=5, -1..=3, 2)]);
+        assert_eq!(layers_of(&[]), []);
+    }
+
+    #[test]
+    fn what_is_far_apart_stands_in_pictures_of_its_own() {
+        let layers = layers_of(&[[0, 0, 0], [3, 0, 4], [0, 0, 500], [900_000, 0, 0], [0, 70_000, 0]]);
+        let expected = [
+            (0, 0..=3, 0..=4, 2),
+            (0, 0..=0, 500..=500, 1),
+            (0, 900_000..=900_000, 0..=0, 1),
+            (70_000, 0..=0, 0..=0, 1),
+        ];
+        assert_eq!(layers, expected);
+    }
+
+    /// Every row is in one layer, wherever the rows stand.
+    #[test]
+    fn no_row_is_left_out() {
+        let corner = |number: i32| [number % 7 * 100_000, number % 3, -number * 977 % 1_000_003];
+        let rows: Vec<_> = (0..1024).map(|number| Row::new(Kind::Solid, corner(number))).collect();
+        let mut numbers: Vec<_> = layers(&rows)
+            .iter()
+            .flat_map(|layer| layer.rows().map(|(_, number)| number).collect::<Vec<_>>())
+            .collect();
+        numbers.sort_unstable();
+        assert_eq!(numbers, (0..1024).collect::<Vec<_>>());
+    }
+}

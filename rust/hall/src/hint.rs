@@ -5,9 +5,10 @@ use std::fmt::{self, Display, Formatter};
 
 use redstone::{Arm, Device, Facing, Kind, Refusal, Row, Shape, redraw, rows};
 
+use crate::device::{is_candidate, place};
 use crate::hall::Hall;
 use crate::name::{block_name, is_switch, moved, step};
-use crate::run::{Frame, Run, delay_ticks, is_candidate, is_device};
+use crate::run::{Frame, Run, delay_ticks};
 
 /// A circuit in which the game differs, and where the hall has it.
 #[derive(Clone, Debug, Eq, PartialEq)]
@@ -84,8 +85,7 @@ const RULES: &[Rule] = &[
         sentence: "a strongly powered block beside it powers it here, and no block in the game",
         holds: |view, row| {
             view.takes_power(row)
-                && (view.kind(row) == Kind::RedstoneLamp
-                    || view.around(row).any(|other| view.reads(other, row)))
+                && view.around(row).any(|other| view.is_device_that_reads(other, row))
                 && view.ever(|frame| {
                     let strong_beside = view.around(row).any(|other| frame.figures(other).strong > 0);
                     let dust_beside = view.around(row).any(|other| view.is_dust_with_power(frame, other));
@@ -400,16 +400,18 @@ impl<'a> View<'a> {
         }
     }
 
-    /// Whether a row, beside another, answers to the other's power as a block.
-    fn reads(&self, row: usize, block: usize) -> bool {
+    /// Whether a torch, repeater or comparator, beside a block, answers to its power.
+    fn is_device_that_reads(&self, row: usize, block: usize) -> bool {
         match self.kind(row) {
             Kind::RedstoneTorch => self.support(row) == Some(block),
-            Kind::Repeater | Kind::Comparator => {
-                self.input(row) == Some(block) || self.sides(row).any(|side| side == block)
-            }
-            Kind::RedstoneWire | Kind::RedstoneLamp => true,
-            _ => false,
+            _ => self.input(row) == Some(block) || self.sides(row).any(|side| side == block),
         }
+    }
+
+    /// Whether a row, beside a block with strong power, answers to it.
+    fn reads(&self, row: usize, block: usize) -> bool {
+        matches!(self.kind(row), Kind::RedstoneWire | Kind::RedstoneLamp)
+            || self.is_device_that_reads(row, block)
     }
 
     fn powered_by_redstone_block(&self, row: usize) -> bool {
@@ -473,11 +475,7 @@ impl<'a> View<'a> {
     fn changes_by_itself(&self, row: usize) -> bool {
         let first_switch = self.run.frames.iter().position(|frame| !frame.switches.is_empty());
         let frames = &self.run.frames[..=first_switch.unwrap_or(self.run.last_tick())];
-        let given = |frame: &Frame| match frame.devices[row] {
-            Device::Lamp { lit, .. } => lit.into(),
-            device => device.byte(),
-        };
-        is_device(self.kind(row)) && frames.iter().any(|frame| given(frame) != given(&frames[0]))
+        place(self.kind(row)).is_some() && frames.iter().any(|frame| frame.given(row) != frames[0].given(row))
     }
 
     /// The fewest ticks for which a repeater gives a value between two times at which it gives the other.

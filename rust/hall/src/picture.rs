@@ -3,9 +3,10 @@
 use std::collections::{BTreeMap, BTreeSet};
 use std::fmt::Write;
 
-use redstone::{Device, Facing, Kind, Row, Shape};
+use redstone::{Facing, Kind, Row, Shape};
 
 use crate::chart::level_digit;
+use crate::device::{SORTS, States, place};
 use crate::grid::{Layer, layers};
 use crate::name::{is_switch, kind_name};
 use crate::run::Frame;
@@ -94,25 +95,24 @@ impl Legend {
 
 /// The sign of a row: what it is, where it faces, its shape, and whether it is on or what it gives.
 fn sign(row: &Row, frame: &Frame, number: usize, legend: &mut Legend) -> String {
-    let (kind, figures) = (row.kind(), frame.figures(number));
+    let kind = row.kind();
     if kind == Kind::RedstoneWire {
         legend.dust();
-        return level_digit(figures.signal).to_string();
+        return level_digit(frame.figures(number).signal).to_string();
     }
     let mut sign = legend.letter(letter(kind), meaning(kind)).to_owned();
     if let Some(facing) = row.facing().filter(|_| matches!(kind, Kind::Repeater | Kind::Comparator)) {
         sign += arrow(facing).map_or("", |arrow| legend.arrow(arrow));
     }
     sign += shape(row.shape()).map_or("", |(mark, meaning)| legend.mark(mark, meaning));
-    let is_on = match frame.devices[number] {
-        Device::Comparator { level } => {
-            sign.push(level_digit(level));
+    let given = frame.given(number);
+    let is_on = match place(kind).map(|place| SORTS[place].states) {
+        Some(States::Levels) => {
+            sign.push(level_digit(given));
             false
         }
-        Device::Repeater { powered: is_on, .. }
-        | Device::Torch { lit: is_on, .. }
-        | Device::Lamp { lit: is_on, .. } => is_on,
-        _ => is_switch(kind) && figures.signal > 0,
+        Some(States::Two { .. }) => given > 0,
+        None => is_switch(kind) && given > 0,
     };
     if is_on {
         sign += legend.mark("*", "on, lit");
@@ -163,5 +163,61 @@ fn shape(shape: Shape) -> Option<(&'static str, &'static str)> {
         Shape::BottomStairs => Some((",", "bottom stairs")),
         Shape::TopStairs => Some(("'", "top stairs")),
         Shape::Glass => Some(("g", "glass")),
+    }
+}
+
+#[cfg(test)]
+mod tests {
+    use super::*;
+    use crate::Hall;
+
+    fn picture_of(text: &str) -> String {
+        let hall = Hall::from_text("a.hall", text, None).expect("a hall");
+        picture(&hall.rows, &Frame::of(&hall.fresh, Vec::new()), &hall.fresh.unsupported().expect("a list"))
+    }
+
+    #[test]
+    fn each_sign_has_its_meaning() {
+        let text = "0,0,0 Solid\n1,0,0 Solid shape=top_slab\n2,0,0 Transparent shape=glass\n3,0,0 RedstoneBlock\n\
+                    0,1,0 Lever powered=true support=0,-1,0\n1,1,0 RedstoneWire support=0,-1,0\n2,1,0 RedstoneWire\n\
+                    3,1,0 Repeater facing=North powered=true support=0,-1,0\n0,1,1 RedstoneTorch powered=false support=0,0,-1\n\
+                    1,1,1 Comparator facing=West level=12 support=0,-1,0\n2,1,1 RedstoneLamp\n3,1,1 Piston\n";
+        let expected = "\
+y=0, x from 0 to 3
+    0  1    2  3
+z=0 #  #-   %g B
+z=1 .  .    .  .
+
+y=1, x from 0 to 3
+    0  1    2  3
+z=0 /* f    e! R^*
+z=1 T! C<c! L  P
+
+0-f   dust, its level; a to f are 10 to 15
+#     solid block
+%     transparent block
+/     lever
+B     redstone block
+C     comparator, with its level; + is above 15
+L     lamp
+P     piston
+R     repeater
+T     torch
+^>v<  faces North, East, South, West
+!     nothing holds it up, by the support list
+*     on, lit
+-     top slab
+g     glass
+";
+        assert_eq!(picture_of(text), expected);
+    }
+
+    #[test]
+    fn a_wide_layer_stands_in_bands() {
+        let text: String = (-3..80).map(|x| format!("{x},0,0 Solid\n")).collect();
+        let picture = picture_of(&text);
+        let heads: Vec<_> = picture.lines().filter(|line| line.starts_with("y=")).collect();
+        assert_eq!(heads, ["y=0, x from -3 to 33", "y=0, x from 34 to 70", "y=0, x from 71 to 79"]);
+        assert!(picture.lines().all(|line| line.len() <= WIDEST));
     }
 }

@@ -5,6 +5,7 @@ use std::fmt::{self, Display, Formatter};
 
 use redstone::{Circuit, Device, Figures, Kind, Refusal, Row, STATE_BYTES, Settled};
 
+use crate::device::{SORTS, SWITCHED, States, given, is_candidate, place};
 use crate::hall::Hall;
 use crate::name::{block_name, counted, is_switch};
 use crate::switch::Switch;
@@ -69,6 +70,12 @@ impl Frame {
     pub fn figures(&self, row: usize) -> Figures {
         self.settled.figures(row).expect("a row of the table")
     }
+
+    /// What a row gives: a device its level, or whether it is on or lit; any other row its signal.
+    #[must_use]
+    pub fn given(&self, row: usize) -> u8 {
+        given(self.devices[row]).unwrap_or_else(|| self.figures(row).signal)
+    }
 }
 
 /// The bytes of a state that decide all that follows but the marks of torches: 0 to 3 of each row, and 9, which is 0 for
@@ -117,10 +124,10 @@ impl Run {
         self.frames.iter().enumerate()
     }
 
-    /// What a row gives at each tick: a device its byte, a lamp whether it is lit, any other row its signal.
+    /// What a row gives at each tick.
     #[must_use]
     pub fn given(&self, row: usize) -> Vec<u8> {
-        self.frames.iter().map(|frame| given(frame, row)).collect()
+        self.frames.iter().map(|frame| frame.given(row)).collect()
     }
 
     /// The rows that are shown tick by tick: the devices, and what is set during the run.
@@ -130,10 +137,10 @@ impl Run {
             let mut switches = self.frames.iter().flat_map(|frame| &frame.switches);
             switches.any(|switch| switch.position == row.position())
         };
-        let shown = |row: &Row| is_device(row.kind()) || is_switch(row.kind()) && set(row);
+        let shown = |row: &Row| place(row.kind()).is_some() || is_switch(row.kind()) && set(row);
         let rows = self.rows.iter().enumerate().filter(|(_, row)| shown(row));
         let mut lanes: Vec<_> = rows.map(|(number, row)| Lane::new(self, number, row)).collect();
-        lanes.sort_by_key(|lane| (lane.order, lane.row));
+        lanes.sort_by_key(|lane| (lane.place, lane.row));
         lanes
     }
 
@@ -151,7 +158,7 @@ impl Run {
     #[must_use]
     pub fn looks_different(&self, one: usize, other: usize) -> bool {
         let (one, other) = (&self.frames[one], &self.frames[other]);
-        one.settled != other.settled || (0..self.rows.len()).any(|row| given(one, row) != given(other, row))
+        one.settled != other.settled || (0..self.rows.len()).any(|row| one.given(row) != other.given(row))
     }
 
     /// The ticks that come again and again, if they do, within the run.
@@ -168,32 +175,14 @@ impl Run {
     pub fn blinks(&self, row: usize) -> bool {
         self.cycle().is_some_and(|ticks| {
             let frames = &self.frames[ticks];
-            frames.iter().any(|frame| given(frame, row) != given(&frames[0], row))
+            frames.iter().any(|frame| frame.given(row) != frames[0].given(row))
         })
     }
-}
-
-fn given(frame: &Frame, row: usize) -> u8 {
-    match frame.devices[row] {
-        Device::None => frame.figures(row).signal,
-        Device::Lamp { lit, .. } => lit.into(),
-        device => device.byte(),
-    }
-}
-
-pub(crate) fn is_candidate(device: Device) -> bool {
-    matches!(device, Device::Torch { candidate: true, .. })
 }
 
 /// The ticks that a repeater's delay counts as.
 pub(crate) fn delay_ticks(row: &Row) -> u8 {
     row.delay().unwrap_or(1).clamp(1, 4)
-}
-
-/// Whether a tick changes the kind.
-#[must_use]
-pub fn is_device(kind: Kind) -> bool {
-    matches!(kind, Kind::RedstoneTorch | Kind::Repeater | Kind::Comparator | Kind::RedstoneLamp)
 }
 
 /// What a row gives, tick by tick.
@@ -205,13 +194,12 @@ pub struct Lane {
     pub label: String,
     /// What it gives at each tick.
     pub values: Vec<u8>,
-    /// Whether it gives levels, and not just off and on.
-    pub has_levels: bool,
-    /// The words for off and on.
-    pub words: [&'static str; 2],
+    /// What it may give.
+    pub states: States,
     /// Whether it changes in the ticks that come again and again.
     pub blinks: bool,
-    order: usize,
+    /// Among the devices; what is switched goes before them.
+    place: Option<usize>,
 }
 
 impl Lane {
@@ -220,26 +208,21 @@ impl Lane {
             Kind::Repeater => format!("{} delay {}", block_name(row), delay_ticks(row)),
             _ => block_name(row),
         };
-        let order = match row.kind() {
-            kind if is_switch(kind) => 0,
-            Kind::Repeater => 1,
-            Kind::RedstoneTorch => 2,
-            Kind::Comparator => 3,
-            _ => 4,
-        };
+        let place = place(row.kind());
         Self {
             row: number,
             label,
             values: run.given(number),
-            has_levels: row.kind() == Kind::Comparator,
-            words: match row.kind() {
-                Kind::RedstoneTorch => ["out", "lit"],
-                Kind::RedstoneLamp => ["dark", "lit"],
-                _ => ["off", "on"],
-            },
+            states: place.map_or(SWITCHED, |place| SORTS[place].states),
             blinks: run.blinks(number),
-            order,
+            place,
         }
+    }
+
+    /// Whether it gives levels, and not just one of two states.
+    #[must_use]
+    pub fn has_levels(&self) -> bool {
+        self.states == States::Levels
     }
 
     /// Whether it changes at a tick.
@@ -267,5 +250,68 @@ impl Display for Run {
             Some(tick) => write!(f, ", until the switch at tick {tick}."),
             None => f.write_str("."),
         }
+    }
+}
+
+#[cfg(test)]
+mod tests {
+    use super::*;
+
+    const CLOCK: &str = "0,0,0 Solid\n0,0,1 Solid\n0,1,0 RedstoneWire\n0,1,1 RedstoneWire\n\
+                         1,0,0 RedstoneTorch support=-1,0,0\n1,0,1 RedstoneWire\n";
+    const LOCK: &str = "0,0,0 Lever\n1,0,0 Repeater facing=East delay=3\n2,0,0 RedstoneLamp\n";
+
+    fn run(text: &str, ticks: u32) -> Run {
+        let hall = Hall::from_text("a.hall", text, None).expect("a hall");
+        Run::new(&hall, ticks).expect("an accepted table")
+    }
+
+    #[test]
+    fn a_hall_without_devices_is_still_at_once() {
+        let run = run("0,0,0 RedstoneBlock\n1,0,0 RedstoneWire\n", 5);
+        assert_eq!(run.outlook, Outlook::Still { from: 0 });
+        assert_eq!(run.to_string(), "From tick 0 on nothing changes.");
+        assert!(run.lanes().is_empty() && run.candidates().is_empty());
+    }
+
+    /// The toggle bits of a torch, which are new in every tick, and its mark are left out.
+    #[test]
+    fn a_clock_begins_its_cycle_at_tick_0() {
+        let run = run(CLOCK, 20);
+        assert_eq!(run.outlook, Outlook::Cycle { from: 0, ticks: 2 });
+        assert_eq!(run.to_string(), "From tick 0 on the same 2 ticks come again and again.");
+        assert_eq!((run.candidates(), run.cycle()), (vec![(4, 8)], Some(0..2)));
+        assert_eq!((0..6).filter(|row| run.blinks(*row)).collect::<Vec<_>>(), [2, 3, 4, 5]);
+        assert!(run.looks_different(0, 1) && !run.looks_different(0, 2));
+    }
+
+    /// A repeater's queue is part of what decides, though nothing shows of it.
+    #[test]
+    fn what_is_under_way_in_a_queue_is_not_still() {
+        let run = run(&format!("{LOCK}switch tick 2 0,0,0 on\n"), 20);
+        assert_eq!(run.outlook, Outlook::Still { from: 5 });
+        let values: Vec<_> =
+            run.lanes().iter().map(|lane| (lane.label.clone(), lane.values[..8].to_vec())).collect();
+        assert_eq!(
+            values,
+            [
+                ("lever 0,0,0".to_owned(), vec![0, 0, 15, 15, 15, 15, 15, 15]),
+                ("repeater 1,0,0 delay 3".to_owned(), vec![0, 0, 0, 0, 0, 1, 1, 1]),
+                ("lamp 2,0,0".to_owned(), vec![0, 0, 0, 0, 0, 1, 1, 1]),
+            ]
+        );
+    }
+
+    #[test]
+    fn a_run_that_is_too_short_says_so() {
+        let open = run(&format!("{LOCK}switch tick 2 0,0,0 on\n"), 4);
+        assert_eq!(open.outlook, Outlook::Open);
+        assert_eq!(
+            open.to_string(),
+            "Up to tick 4 no tick repeats an earlier one: ask for more with --ticks."
+        );
+        let before = run(&format!("{LOCK}switch tick 9 0,0,0 on\n"), 4);
+        assert_eq!(before.to_string(), "From tick 0 on nothing changes, until the switch at tick 9.");
+        assert_eq!(before.later.len(), 1);
     }
 }

@@ -23,6 +23,7 @@ fn run(arguments: &Arguments, out: &mut dyn Write) -> Result<Status, Failure> {
         return Err(Failure::sentence("bytes are not for a terminal: name a file, as in -o hall.bin"));
     }
     deliver(&[hall.fresh.profile(), hall.fresh.table()].concat(), file, arguments.one("hall")?, out)?;
+    out.flush()?;
     let left = hall.switches.len() + hall.expectations.len();
     if left > 0 {
         // It changes nothing that this cannot be said.

@@ -3,6 +3,7 @@
 use std::fmt::Write;
 use std::ops::Range;
 
+use crate::device::States;
 use crate::expect::Met;
 use crate::run::{Lane, Outlook, Run};
 
@@ -112,7 +113,7 @@ fn draw(text: &mut String, lane: &Lane, left: usize, top: usize, ticks: &Range<u
             let (x, y) = (x(span.start), top + height(span.start));
             let _ = write!(text, "<circle class=\"change\" cx=\"{x}\" cy=\"{y}\" r=\"3\"/>");
         }
-        if lane.has_levels {
+        if lane.has_levels() {
             let _ = write!(
                 text,
                 "<text class=\"level\" x=\"{}\" y=\"{}\">{}</text>",
@@ -134,7 +135,7 @@ fn draw(text: &mut String, lane: &Lane, left: usize, top: usize, ticks: &Range<u
 
 /// A lane's height at a tick, of 15.
 fn share(lane: &Lane, tick: usize) -> usize {
-    match (lane.has_levels, lane.values[tick]) {
+    match (lane.has_levels(), lane.values[tick]) {
         (true, level) => level.min(15).into(),
         (false, 0) => 0,
         (false, _) => 15,
@@ -148,10 +149,9 @@ fn ending(lane: &Lane, tick: usize) -> (&'static str, String) {
     if lane.blinks {
         return ("blinking", "blinks".to_owned());
     }
-    let word = match (lane.has_levels, lane.words, value) {
-        (true, ..) => value.to_string(),
-        (false, [off, _], 0) => off.to_owned(),
-        (false, [_, on], _) => on.to_owned(),
+    let word = match lane.states {
+        States::Levels => value.to_string(),
+        States::Two { words, .. } => words[usize::from(value > 0)].to_owned(),
     };
     (class, word)
 }

@@ -2,9 +2,10 @@
 
 use std::fmt::Write;
 
-use redstone::{Device, Facing, Kind, Row, Shape};
+use redstone::{Facing, Kind, Row, Shape};
 
 use super::escape;
+use crate::device::place;
 use crate::expect::Met;
 use crate::grid::{Layer, layers};
 use crate::name::{block_name, is_switch};
@@ -133,11 +134,7 @@ fn cell(run: &Run, tick: usize, number: usize, (x, y): (i32, i32), marks: &Marks
 
 /// Whether a row gives light or power of its own.
 fn is_on(row: &Row, frame: &Frame, number: usize) -> bool {
-    match frame.devices[number] {
-        Device::Lamp { lit, .. } => lit,
-        Device::None => is_switch(row.kind()) && frame.figures(number).signal > 0,
-        device => device.byte() > 0,
-    }
+    (place(row.kind()).is_some() || is_switch(row.kind())) && frame.given(number) > 0
 }
 
 fn class(kind: Kind) -> &'static str {
@@ -174,7 +171,7 @@ fn drawing(row: &Row, frame: &Frame, number: usize) -> String {
             arrow(row.facing(), "M16 6L25 20H7Z")
         ),
         Kind::Comparator => {
-            let Device::Comparator { level } = frame.devices[number] else { return String::new() };
+            let level = frame.given(number);
             format!(
                 "<rect class=\"plate-of-device\" x=\"3\" y=\"3\" width=\"26\" height=\"26\" rx=\"3\"/>{}\
                  <text class=\"number\" x=\"16\" y=\"21\">{level}</text>",

@@ -184,3 +184,13 @@ fn escape(text: &str) -> String {
     }
     escaped
 }
+
+#[cfg(test)]
+mod tests {
+    use super::*;
+
+    #[test]
+    fn marks_of_html_are_taken_for_what_they_are() {
+        assert_eq!(escape("a<b>&\"c\"\u{1b}[m\n"), "a&lt;b&gt;&amp;&quot;c&quot;\u{fffd}[m\n");
+    }
+}
