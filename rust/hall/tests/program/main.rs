@@ -5,6 +5,7 @@ mod generated;
 mod hints;
 mod output;
 mod page;
+mod readme;
 mod refusals;
 mod samples;
 mod stored;
