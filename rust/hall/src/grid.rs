@@ -38,6 +38,19 @@ impl Layer {
         self.cells.get(&(x, z)).copied()
     }
 
+    /// The layer in parts of no more columns and lines than these. Parts without rows are left out.
+    #[must_use]
+    pub fn tiles(&self, columns: i32, lines: i32) -> Vec<Self> {
+        let (columns, lines) = (parts_of(&self.xs, columns), parts_of(&self.zs, lines));
+        let tiles = lines.iter().flat_map(|zs| columns.iter().map(|xs| self.part(xs, zs)));
+        tiles.filter(|tile| !tile.cells.is_empty()).collect()
+    }
+
+    fn part(&self, xs: &RangeInclusive<i32>, zs: &RangeInclusive<i32>) -> Self {
+        let inside = |((x, z), _): &((i32, i32), usize)| xs.contains(x) && zs.contains(z);
+        Self { y: self.y, xs: xs.clone(), zs: zs.clone(), cells: self.rows().filter(inside).collect() }
+    }
+
     /// The rows, by x and then z.
     pub fn rows(&self) -> impl Iterator<Item = ((i32, i32), usize)> {
         self.cells.iter().map(|(place, number)| (*place, *number))
@@ -84,6 +97,15 @@ fn split_at_gaps(rows: &[(Position, usize)], axis: usize) -> Vec<Vec<(Position, 
     sorted.chunk_by(is_near).map(<[_]>::to_vec).collect()
 }
 
+/// A range in parts of about the same width, none of them wider than this.
+fn parts_of(range: &RangeInclusive<i32>, widest: i32) -> Vec<RangeInclusive<i32>> {
+    let (start, end) = (*range.start(), *range.end());
+    let width = end - start + 1;
+    let parts = (width + widest - 1) / widest;
+    let part = (width + parts - 1) / parts;
+    (start..=end).step_by(part as usize).map(|first| first..=end.min(first + part - 1)).collect()
+}
+
 fn width(range: &RangeInclusive<i32>) -> i64 {
     i64::from(*range.end()) - i64::from(*range.start()) + 1
 }
@@ -121,6 +143,26 @@ mod tests {
             (70_000, 0..=0, 0..=0, 1),
         ];
         assert_eq!(layers, expected);
+    }
+
+    #[test]
+    fn a_large_layer_is_cut_into_tiles() {
+        let rows: Vec<_> = (0..70).map(|x| Row::new(Kind::Solid, [x, 0, x % 3])).collect();
+        let layer = &layers(&rows)[0];
+        let tiles: Vec<_> =
+            layer.tiles(32, 2).into_iter().map(|tile| (tile.xs, tile.zs, tile.cells.len())).collect();
+        assert_eq!(
+            tiles,
+            [
+                (0..=23, 0..=1, 16),
+                (24..=47, 0..=1, 16),
+                (48..=69, 0..=1, 15),
+                (0..=23, 2..=2, 8),
+                (24..=47, 2..=2, 8),
+                (48..=69, 2..=2, 7)
+            ]
+        );
+        assert_eq!(layer.tiles(100, 100), std::slice::from_ref(layer));
     }
 
     /// Every row is in one layer, wherever the rows stand.

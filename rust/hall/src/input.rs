@@ -123,6 +123,8 @@ fn text<'a>(name: &str, bytes: &'a [u8]) -> Result<&'a str, Refused> {
             format!("the text has more than {MOST_TEXT} bytes: a hall has at most {MOST_ROWS} rows");
         return Err(Refused::file(name, message));
     }
+    // Some editors put a mark before a text.
+    let bytes = bytes.strip_prefix("\u{feff}".as_bytes()).unwrap_or(bytes);
     str::from_utf8(bytes).map_err(|error| {
         let line = 1 + bytes[..error.valid_up_to()].iter().filter(|byte| **byte == b'\n').count();
         Refused::line(name, line, "the text is not UTF-8, nor is it the packed form: save it as UTF-8")

@@ -17,6 +17,8 @@ const HIGH: usize = 7;
 /// The width of a letter of a label, and of what stands behind the ticks.
 const LETTER: usize = 7;
 const BEHIND: usize = 70;
+/// The most lines of a chart, so that it fits on a sheet of paper.
+const LANES_ON_A_SHEET: usize = 26;
 /// The most ticks that stand side by side.
 const TICKS_SIDE_BY_SIDE: usize = 40;
 
@@ -28,7 +30,10 @@ pub fn charts(run: &Run, met: &[Met]) -> String {
     }
     let mut text = String::new();
     for first in (0..run.frames.len()).step_by(TICKS_SIDE_BY_SIDE) {
-        text += &chart(run, &lanes, met, first..run.frames.len().min(first + TICKS_SIDE_BY_SIDE));
+        let ticks = first..run.frames.len().min(first + TICKS_SIDE_BY_SIDE);
+        for lanes in lanes.chunks(LANES_ON_A_SHEET) {
+            text += &chart(run, lanes, met, ticks.clone());
+        }
     }
     text
 }

@@ -20,6 +20,9 @@ const NARROW: usize = 4;
 
 /// Layers with no more columns than this are drawn larger.
 const FEW: i32 = 10;
+/// The most columns and lines of a picture: a larger layer is cut into more, so that each fits on a sheet of paper.
+const COLUMNS: i32 = 32;
+const LINES: i32 = 20;
 /// The most columns of a layer that another may stand beside.
 const MOST_BESIDE: i32 = 24;
 
@@ -47,18 +50,26 @@ pub fn is_wide(run: &Run) -> bool {
 pub fn pictures(run: &Run, tick: usize, marks: &Marks) -> String {
     let mut text = String::from("<div class=\"layers\">\n");
     for layer in layers(&run.rows) {
-        text += &picture(run, tick, &layer, marks);
+        let tiles = layer.tiles(COLUMNS, LINES);
+        for tile in &tiles {
+            text += &picture(run, tick, tile, tiles.len() > 1, marks);
+        }
     }
     text + "</div>\n"
 }
 
-fn picture(run: &Run, tick: usize, layer: &Layer, marks: &Marks) -> String {
+fn picture(run: &Run, tick: usize, layer: &Layer, is_part: bool, marks: &Marks) -> String {
     let (first_x, first_z) = (*layer.xs.start(), *layer.zs.start());
     let (columns, lines) = (layer.xs.end() - first_x + 1, layer.zs.end() - first_z + 1);
     let (width, height) = (LEFT + CELL * columns + 2, TOP + CELL * lines + 2);
     let (shown_width, shown_height) =
         if columns <= FEW { (width * 5 / 4, height * 5 / 4) } else { (width, height) };
-    let mut text = format!("<figure><figcaption>y = {}</figcaption>\n", layer.y);
+    let part = if is_part {
+        format!(", x from {first_x} to {}, z from {first_z} to {}", layer.xs.end(), layer.zs.end())
+    } else {
+        String::new()
+    };
+    let mut text = format!("<figure><figcaption>y = {}{part}</figcaption>\n", layer.y);
     let _ = writeln!(
         text,
         "<svg class=\"layer\" xmlns=\"http://www.w3.org/2000/svg\" width=\"{shown_width}\" height=\"{shown_height}\" \

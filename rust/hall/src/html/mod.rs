@@ -43,8 +43,9 @@ pub fn page(hall: &Hall, run: &Run, met: &[Met]) -> Result<String, Refusal> {
     event_list(&mut body, run);
     if !met.is_empty() {
         body += "<section><h2>Expectations</h2>\n";
+        body += "<div class=\"columns\">\n";
         expectations(&mut body, met);
-        body += "</section>\n";
+        body += "</div></section>\n";
     }
     hint_list(&mut body, &hint::hints(hall, run)?);
     figures(&mut body, run);

@@ -107,6 +107,20 @@ fn each_refusal_of_the_text_form() {
 }
 
 #[test]
+fn a_mark_before_the_text_and_line_ends_of_two_signs_are_read() {
+    let done = hall_with(&["unpack", "-"], "\u{feff}# caf\u{e9}\r\n0,0,0 Solid\r\n".as_bytes());
+    assert_eq!((done.status, done.text()), (Some(0), "blocks=1\n0,0,0 Solid\n"));
+}
+
+#[test]
+fn a_hall_without_rows_is_shown() {
+    for command in ["run", "levels", "check", "csv", "report", "unpack"] {
+        let done = hall_with(&[command, "-"], b"blocks=0\n");
+        assert_eq!((done.status, done.err.as_str()), (Some(0), ""), "{command}");
+    }
+}
+
+#[test]
 fn another_profile_is_taken_for_the_file() {
     // With a profile in which nothing takes power, the lever's block has none.
     let text = file("profile", "none.txt", "# Nothing takes power.\nprofile\n");
