@@ -1,19 +1,16 @@
-//! The commands, and the words that they are called with.
+//! What a command is, and how one is called.
 
-use std::ffi::{OsStr, OsString};
+use std::ffi::OsString;
 use std::fmt::Write as _;
 use std::io::{self, Write};
-use std::ops::RangeInclusive;
-use std::str::FromStr;
 
 use redstone::Refusal;
-use redstone_text::Word;
 
+use crate::Refused;
+use crate::arguments::Arguments;
 use crate::commands::COMMANDS;
 use crate::nearest::nearest;
 use crate::output::unwritten;
-use crate::run::Run;
-use crate::{DEFAULT_TICKS, Hall, MOST_SHOWN_TICKS, Refused, input};
 
 /// A command: one entry of the table [`COMMANDS`].
 pub struct Command {
@@ -126,103 +123,9 @@ impl From<io::Error> for Failure {
     }
 }
 
-/// The words after a command's name.
-#[derive(Debug, Default)]
-pub struct Arguments {
-    /// Those that are no options.
-    pub operands: Vec<OsString>,
-    options: Vec<(&'static str, OsString)>,
-}
-
-impl Arguments {
-    fn read(command: &Command, words: impl Iterator<Item = OsString>) -> Result<Self, Failure> {
-        let mut arguments = Self::default();
-        let mut words = words.peekable();
-        let mut only_operands = false;
-        while let Some(word) = words.next() {
-            let text = word.to_string_lossy().into_owned();
-            if only_operands || !text.starts_with('-') || text == "-" {
-                arguments.operands.push(word);
-                continue;
-            }
-            if text == "--" {
-                only_operands = true;
-                continue;
-            }
-            let (name, value) = match text.split_once('=') {
-                Some((name, value)) if name.starts_with("--") => (name, Some(OsString::from(value))),
-                _ => (text.as_str(), None),
-            };
-            let choice = command.choice(name)?;
-            if !choice.may_repeat && arguments.option(choice).is_some() {
-                return Err(Failure::sentence(format!("{name} is given twice: give it once")));
-            }
-            let value = value.or_else(|| words.next()).ok_or_else(|| {
-                Failure::sentence(format!("{name} has no value: give {name} {}", choice.value))
-            })?;
-            arguments.options.push((choice.name, value));
-        }
-        Ok(arguments)
-    }
-
-    /// The value of an option.
-    #[must_use]
-    pub fn option(&self, choice: &Choice) -> Option<&OsStr> {
-        self.options(choice).next()
-    }
-
-    fn options(&self, choice: &Choice) -> impl Iterator<Item = &OsStr> {
-        self.options.iter().filter(|(name, _)| *name == choice.name).map(|(_, value)| value.as_os_str())
-    }
-
-    /// The value of an option as a whole number of a range.
-    pub(crate) fn number<T>(&self, choice: &Choice, range: RangeInclusive<T>) -> Result<Option<T>, Failure>
-    where
-        T: FromStr + PartialOrd + std::fmt::Display,
-    {
-        let Some(value) = self.option(choice) else { return Ok(None) };
-        let text = value.to_string_lossy();
-        let number = Word { line: 1, column: 1, text: &text }.number(range);
-        number.map(Some).map_err(|error| Failure::sentence(format!("{}: {}", choice.name, error.message())))
-    }
-
-    /// The one operand.
-    pub(crate) fn one(&self, what: &str) -> Result<&OsStr, Failure> {
-        match &self.operands[..] {
-            [one] => Ok(one),
-            [] => Err(Failure::sentence(format!("no {what} is named: give one, or - for standard input"))),
-            [_, second, ..] => Err(Failure::sentence(format!(
-                "{} is one {what} too many: name one",
-                second.to_string_lossy()
-            ))),
-        }
-    }
-
-    /// The profile that `--profile` names.
-    pub(crate) fn profile(&self) -> Result<Option<Vec<u8>>, Failure> {
-        Ok(self.option(&PROFILE).map(input::read_profile).transpose()?)
-    }
-
-    /// The hall that the one operand names, with the switches of `--switch`.
-    pub(crate) fn hall(&self) -> Result<Hall, Failure> {
-        let mut hall = input::read(self.one("hall")?, self.profile()?.as_deref())?;
-        for value in self.options(&SWITCH) {
-            let text = value.to_string_lossy();
-            hall.add_switch(&text)
-                .map_err(|error| Failure::sentence(format!("{} {text}: {}", SWITCH.name, error.message())))?;
-        }
-        Ok(hall)
-    }
-
-    /// A hall's run for as many ticks as `--ticks` says.
-    pub(crate) fn run(&self, hall: &Hall) -> Result<Run, Failure> {
-        let ticks = self.number(&TICKS, 0..=MOST_SHOWN_TICKS)?.unwrap_or(DEFAULT_TICKS);
-        Ok(Run::new(hall, ticks)?)
-    }
-}
-
 impl Command {
-    fn choice(&self, name: &str) -> Result<&'static Choice, Failure> {
+    /// The option of a name.
+    pub(crate) fn choice(&self, name: &str) -> Result<&'static Choice, Failure> {
         if let Some(choice) = self.options.iter().find(|choice| choice.name == name) {
             return Ok(choice);
         }

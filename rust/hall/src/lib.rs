@@ -7,6 +7,7 @@
 #![deny(unsafe_code)]
 #![warn(missing_docs)]
 
+mod arguments;
 mod chart;
 mod command;
 mod commands;

@@ -10,7 +10,8 @@ use std::thread;
 use std::time::{Duration, Instant};
 
 use crate::Refused;
-use crate::command::{Arguments, Command, Failure, PROFILE, Status};
+use crate::arguments::Arguments;
+use crate::command::{Command, Failure, PROFILE, Status};
 use crate::expect::{Met, meet};
 use crate::input::{self, is_standard_input};
 use crate::name::counted;
@@ -104,7 +105,7 @@ fn write_in_order(
 }
 
 /// What is found of a file.
-pub struct Checked {
+struct Checked {
     status: Status,
     expectations: usize,
     differences: usize,

@@ -2,7 +2,8 @@
 
 use std::io::Write;
 
-use crate::command::{Arguments, Command, Failure, OUT, PROFILE, SWITCH, Status, TICKS};
+use crate::arguments::Arguments;
+use crate::command::{Command, Failure, OUT, PROFILE, SWITCH, Status, TICKS};
 use crate::csv::write_csv;
 use crate::output::deliver;
 
@@ -21,6 +22,6 @@ fn run(arguments: &Arguments, out: &mut dyn Write) -> Result<Status, Failure> {
     let run = arguments.run(&arguments.hall()?)?;
     let mut bytes = Vec::new();
     write_csv(&run, &mut bytes)?;
-    deliver(&bytes, arguments.option(&OUT), arguments.one("hall")?, out)?;
+    deliver(&bytes, arguments.option(&OUT), arguments.file()?, out)?;
     Ok(Status::Good)
 }

@@ -3,7 +3,8 @@
 use std::io::Write;
 
 use crate::MOST_TICKS;
-use crate::command::{Arguments, Command, Failure, PROFILE, SWITCH, Status, TICK};
+use crate::arguments::Arguments;
+use crate::command::{Command, Failure, PROFILE, SWITCH, Status, TICK};
 use crate::name::counted;
 use crate::picture::picture;
 use crate::run::Frame;

@@ -5,7 +5,8 @@ use std::fs::File;
 use std::io::{self, ErrorKind, Write};
 use std::path::{Path, PathBuf};
 
-use crate::command::{Arguments, Command, Failure, Status};
+use crate::arguments::Arguments;
+use crate::command::{Command, Failure, Status};
 use crate::output::unwritten;
 
 pub const COMMAND: Command = Command {
@@ -21,7 +22,7 @@ pub const COMMAND: Command = Command {
 const SAMPLE: &str = include_str!("new.hall");
 
 fn run(arguments: &Arguments, out: &mut dyn Write) -> Result<Status, Failure> {
-    let file = file_of(arguments.one("name")?)?;
+    let file = file_of(arguments.one("no name is given: give one, as in `hall new door`")?)?;
     let name = file.display().to_string();
     create(&file).map_err(|error| {
         Failure::sentence(match error.kind() {

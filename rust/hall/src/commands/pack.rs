@@ -2,7 +2,8 @@
 
 use std::io::{self, IsTerminal, Write};
 
-use crate::command::{Arguments, Command, Failure, OUT, PROFILE, Status};
+use crate::arguments::Arguments;
+use crate::command::{Command, Failure, OUT, PROFILE, Status};
 use crate::name::counted;
 use crate::output::deliver;
 
@@ -22,7 +23,7 @@ fn run(arguments: &Arguments, out: &mut dyn Write) -> Result<Status, Failure> {
     if file.is_none() && io::stdout().is_terminal() {
         return Err(Failure::sentence("bytes are not for a terminal: name a file, as in -o hall.bin"));
     }
-    deliver(&[hall.fresh.profile(), hall.fresh.table()].concat(), file, arguments.one("hall")?, out)?;
+    deliver(&[hall.fresh.profile(), hall.fresh.table()].concat(), file, arguments.file()?, out)?;
     out.flush()?;
     let left = hall.switches.len() + hall.expectations.len();
     if left > 0 {

@@ -2,7 +2,8 @@
 
 use std::io::Write;
 
-use crate::command::{Arguments, Command, Failure, OUT, PROFILE, SWITCH, Status, TICKS};
+use crate::arguments::Arguments;
+use crate::command::{Command, Failure, OUT, PROFILE, SWITCH, Status, TICKS};
 use crate::expect::meet;
 use crate::html::{page, refused_page};
 use crate::output::deliver;
@@ -19,7 +20,7 @@ the status of `hall check`. Of a file that is refused it gives the reason.",
 };
 
 fn run(arguments: &Arguments, out: &mut dyn Write) -> Result<Status, Failure> {
-    let (input, file) = (arguments.one("hall")?, arguments.option(&OUT));
+    let (input, file) = (arguments.file()?, arguments.option(&OUT));
     let hall = match arguments.hall() {
         Err(Failure::Refused(refused)) => {
             deliver(refused_page(&refused).as_bytes(), file, input, out)?;

@@ -4,8 +4,9 @@ use std::io::Write;
 
 use redstone_text::position_text;
 
+use crate::arguments::Arguments;
 use crate::chart::chart;
-use crate::command::{Arguments, Command, Failure, PROFILE, SWITCH, Status, TICKS};
+use crate::command::{Command, Failure, PROFILE, SWITCH, Status, TICKS};
 use crate::event::events;
 use crate::hint::{Hint, hints};
 use crate::name::{block_name, counted};

@@ -4,7 +4,8 @@ use std::io::Write;
 
 use redstone_text::Table;
 
-use crate::command::{Arguments, Command, Failure, OUT, PROFILE, Status};
+use crate::arguments::Arguments;
+use crate::command::{Command, Failure, OUT, PROFILE, Status};
 use crate::output::deliver;
 
 pub const COMMAND: Command = Command {
@@ -26,6 +27,6 @@ fn run(arguments: &Arguments, out: &mut dyn Write) -> Result<Status, Failure> {
         .try_into()
         .map_err(|_| Failure::sentence("the text form has no place for a profile of this length"))?;
     let text = Table { profile, rows: hall.rows }.to_string();
-    deliver(text.as_bytes(), arguments.option(&OUT), arguments.one("hall")?, out)?;
+    deliver(text.as_bytes(), arguments.option(&OUT), arguments.file()?, out)?;
     Ok(Status::Good)
 }

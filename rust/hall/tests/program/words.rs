@@ -10,8 +10,8 @@ fn a_sentence_says_what_to_do() {
         (&["chekc", "a"][..], "there is no command `chekc`: did you mean `hall check`?"),
         (&["fly"], "there is no command `fly`: the nearest is `hall new`, and `hall --help` lists all."),
         (&["help", "rnu"], "there is no command `rnu`: did you mean `hall run`?"),
-        (&["run"], "no hall is named: give one, or - for standard input."),
-        (&["run", LAMP, "other"], "other is one hall too many: name one."),
+        (&["run"], "no hall is named: give a file, or - for standard input."),
+        (&["run", LAMP, "other"], "other is one word too many: give one name."),
         (&["run", LAMP, "--tiks", "3"], "--tiks is not an option of `hall run`: did you mean --ticks?"),
         (&["run", LAMP, "--fast"], "--fast is not an option of `hall run`: see `hall run --help`."),
         (&["new", "--fast"], "--fast is not an option of `hall new`, which has none."),
@@ -52,6 +52,7 @@ fn a_sentence_says_what_to_do() {
         ),
         (&["new", "halls/none/a"], "halls/none/a.hall could not be written: there is no such folder."),
         (&["new", ".."], ".. is no name for a file."),
+        (&["new"], "no name is given: give one, as in `hall new door`."),
         (
             &["run", "--", "--ticks"],
             "--ticks: there is no such file: look at its name, or begin one with `hall new`.",
