@@ -2,10 +2,10 @@
 
 use std::fmt::{self, Display, Formatter};
 
-use redstone::{Device, Kind, Row};
+use redstone::{Device, Kind};
 
 use crate::device::{SORTS, States, given, is_candidate, place};
-use crate::name::block_name;
+use crate::name::{block_name, find};
 use crate::run::{Frame, Run};
 
 /// Something that a tick or a switch changes.
@@ -48,7 +48,7 @@ fn events_of_tick(run: &Run, tick: usize, frame: &Frame) -> Vec<Event> {
         }
     }
     for switch in &frame.switches {
-        if let Ok(row) = run.rows.binary_search_by_key(&switch.position, Row::position) {
+        if let Some(row) = find(&run.rows, switch.position) {
             events.push(event(row, Change::Switched(switch.on)));
         }
     }

@@ -5,11 +5,11 @@ use std::fmt::{self, Display, Formatter};
 use redstone::{Block, Circuit, Kind, Refusal, Rounds, Row};
 use redstone_text::{Error, Line, Word, Words, position_text};
 
+use crate::MOST_TICKS;
 use crate::device::{given, is_candidate};
 use crate::hall::Hall;
-use crate::name::Position;
-use crate::switch::{not_there, row_at};
-use crate::{MOST_TICKS, name};
+use crate::name::{Position, find, kind_name};
+use crate::switch::not_there;
 
 /// The word that begins a line with an expectation.
 pub(crate) const EXPECT: &str = "expect";
@@ -200,9 +200,9 @@ impl Placed<'_> {
     /// The expectation, where a row of the right kind stands at its position.
     pub(crate) fn check(self, rows: &[Row]) -> Result<Expectation, Error> {
         if let (About::Row(subject, position), Some(word)) = (self.expectation.about, self.place) {
-            let kind = row_at(rows, position).map(Row::kind);
+            let kind = find(rows, position).map(|row| rows[row].kind());
             if kind.is_none() || subject.kind.is_some_and(|wanted| Some(wanted) != kind) {
-                return Err(not_there(word, subject.kind.map_or("row", name::kind_name), kind));
+                return Err(not_there(word, subject.kind.map_or("row", kind_name), kind));
             }
         }
         Ok(self.expectation)

@@ -38,6 +38,12 @@ pub fn is_switch(kind: Kind) -> bool {
     matches!(kind, Kind::Lever | Kind::Button | Kind::PressurePlate)
 }
 
+/// The number of the row at a position, of rows in the table's order.
+#[must_use]
+pub fn find(rows: &[Row], position: Position) -> Option<usize> {
+    rows.binary_search_by_key(&position, Row::position).ok()
+}
+
 /// The step that a facing points along.
 #[must_use]
 pub fn step(facing: Facing) -> Position {

@@ -6,7 +6,7 @@ use redstone::{Kind, Row};
 use redstone_text::{Error, Line, Word, position_text};
 
 use crate::MOST_TICKS;
-use crate::name::{Position, is_switch, kind_name};
+use crate::name::{Position, find, is_switch, kind_name};
 
 /// A lever, button or plate that is set once so many ticks are done. The figures of that tick are those after it.
 #[derive(Clone, Copy, Debug, Eq, PartialEq)]
@@ -60,16 +60,11 @@ impl Switch {
 
 /// That a switch's position is that of a lever, button or plate.
 pub(crate) fn check_place((switch, word): Placed<'_>, rows: &[Row]) -> Result<Switch, Error> {
-    let kind = row_at(rows, switch.position).map(Row::kind);
+    let kind = find(rows, switch.position).map(|row| rows[row].kind());
     match kind {
         Some(kind) if is_switch(kind) => Ok(switch),
         _ => Err(not_there(word, "lever, button or plate", kind)),
     }
-}
-
-/// The row at a position, of rows in the table's order.
-pub(crate) fn row_at(rows: &[Row], position: Position) -> Option<&Row> {
-    rows.binary_search_by_key(&position, Row::position).ok().map(|number| &rows[number])
 }
 
 /// The error of a position where something else stands.
