@@ -9,16 +9,18 @@ use crate::run::{Lane, Outlook, Run};
 
 /// The width of a tick and the height of a line.
 const TICK: usize = 20;
-const LINE: usize = 30;
+const LINE: usize = 34;
 const TOP: usize = 24;
 /// The heights, in a line, of off and of on.
-const LOW: usize = 24;
-const HIGH: usize = 7;
+const LOW: usize = 28;
+const HIGH: usize = 11;
+/// The height, in a line, on which words stand.
+const WORDS: usize = 24;
 /// The width of a letter of a label, and of what stands behind the ticks.
 const LETTER: usize = 7;
 const BEHIND: usize = 70;
 /// The most lines of a chart, so that it fits on a sheet of paper.
-const LANES_ON_A_SHEET: usize = 26;
+const LANES_ON_A_SHEET: usize = 24;
 /// The most ticks that stand side by side.
 const TICKS_SIDE_BY_SIDE: usize = 40;
 
@@ -88,7 +90,8 @@ fn draw(text: &mut String, lane: &Lane, left: usize, top: usize, ticks: &Range<u
     let values = ticks.clone().map(|tick| lane.values[tick].to_string()).collect::<Vec<_>>().join(",");
     let class = if lane.blinks { "lane blinks" } else { "lane" };
     let _ = write!(text, "<g class=\"{class}\" data-lane=\"{}\" data-values=\"{values}\">", lane.label);
-    let _ = write!(text, "<text class=\"label\" x=\"{}\" y=\"{}\">{}</text>", left - 8, top + 20, lane.label);
+    let _ =
+        write!(text, "<text class=\"label\" x=\"{}\" y=\"{}\">{}</text>", left - 8, top + WORDS, lane.label);
     let height = |tick: usize| LOW - (LOW - HIGH) * share(lane, tick) / 15;
     let x = |tick: usize| left + TICK * (tick - ticks.start);
     // The spans of ticks over which the value stays.
@@ -123,7 +126,7 @@ fn draw(text: &mut String, lane: &Lane, left: usize, top: usize, ticks: &Range<u
                 text,
                 "<text class=\"level\" x=\"{}\" y=\"{}\">{}</text>",
                 x(span.start) + TICK / 2,
-                top + 21,
+                top + height(span.start) - 2,
                 lane.values[span.start]
             );
         }
@@ -133,7 +136,7 @@ fn draw(text: &mut String, lane: &Lane, left: usize, top: usize, ticks: &Range<u
         text,
         "<text class=\"end {class}\" x=\"{}\" y=\"{}\">{word}</text>",
         x(ticks.end) + 8,
-        top + 20
+        top + WORDS
     );
     *text += "</g>\n";
 }
@@ -181,7 +184,7 @@ fn mark(text: &mut String, met: &Met, left: usize, top: usize, ticks: &Range<usi
             x - TICK / 2,
             top + 2,
             LINE - 4,
-            top + 20
+            top + WORDS
         );
     }
 }
