@@ -25,7 +25,9 @@ use Rattle.devices.specs.Step.{repeaterInputLevel, isRequested, locksFrom, isLo
 use Rattle.updates.specs.State.{devicesOf, checkState, freshDevices, freshState}
 use Rattle.updates.specs.Tick.{withDevices, withLamps, settledOf, setDevices, setLamps, tick, ticks}
 use Rattle.updates.specs.Calls.{checkFresh, checkStep, checkTick, switched}
-use Rattle.report.specs.Text.{decimalWithin, decimalOf, signedText, lineOf, rowText, settledText, refusalText, checkRun, checkWhole, runText, settleText}
+use Rattle.text.specs.Text.{decimalWithin, decimalOf, signedText, lineOf}
+use Rattle.lines.specs.Lines.{rowText, settledText, refusalText}
+use Rattle.report.specs.Text.{checkRun, checkWhole, runText, settleText}
 
 unfoldable pub computing : ℕ
 unfolding tabulateFrom concatRowsFrom same firstFrom indicesFrom settling says signed32 signed8 clamp32 satAdd samePos before opposite step horizontalOffset beside adjacent posOf supportOf armEntry storedArm find kindAt plain ofShape traits traitsAt goodProfile goodPlace goodRow checkRows checkTable checkInput ahead outputOf inputOf across sidesOf connects componentConnects joins rises drops inferPast inferWireConnection armOf hasArm fitsHorizontal fitsRise fitsFall fits ruleAlong firstRule transferOf dustTransfer transmits entryOf entriesOf withOpposite drawn redrawnRow updateWireShapes goodDevice checkDevices switchLevel emittedLevel emitted outputsTo isSupportOf isCharged emittedToStrong strongToWeak armTo alongArm dustToWeak touches feeds emittedToDust strongToDust networkOf roundsOf settled checkCall checkSettle devicesOf delayOf bitsSet isCandidate goodQueue goodLamp goodTorch goodState checkState freshDevice freshDevices freshQueue freshLamp freshRow freshState repeaterInputLevel isRequested locksFrom isLocked nextQueue repeaterRow torchSupportIsPowered nextToggles nextCandidate torchRow compared nextComparator deviceRow nextLit nextLeft lampRow withDevices withLamps settledOf setDevices setLamps tick ticks checkFresh checkStep checkTick switched decimalWithin decimalOf signedText lineOf rowText settledText refusalText checkRun checkWhole runText settleText

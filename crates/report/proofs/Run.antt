@@ -17,8 +17,9 @@ use Rattle.electrical.proofs.Demand.{never-unsettled}
 use Rattle.updates.specs.State.{freshDevices}
 use Rattle.sim.proofs.Valid.{fresh-devices-valid}
 use Rattle.updates.specs.Calls.{checkFresh}
-use Rattle.report.specs.Text.{refusalText, textOf, profileOf, tableOf, checkRun, checkWhole, runText, settleText}
-use Rattle.report.specs.Put.{Lent}
+use Rattle.lines.specs.Lines.{refusalText}
+use Rattle.report.specs.Text.{textOf, profileOf, tableOf, checkRun, checkWhole, runText, settleText}
+use Rattle.report.specs.Lent.{Lent}
 
 -- ---- what falls on a run
 
