@@ -3,16 +3,16 @@
 use mathlib.Core.Path.{_≡_, refl, sym}
 use mathlib.Core.Logic.{by-cases}
 use mathlib.Core.Bool.{Bool, true, false}
-use Prim.Native.Nat.{ℕ, zero, suc, _+_, _*_, _-_, _%_, _≤_, _<_}
+use Prim.Native.Nat.{ℕ, zero, suc, _+_, _-_, _%_, _<_}
 use native.Mathlib.Decide.{decLt}
 use native.Mathlib.Omega.{arith}
 use lib.ListN.{length}
 use lib.Dec.{eqb, leb}
-use borrow.Author.Tests.{eqb-true, leb-true, not-false}
+use borrow.Author.Tests.{eqb-true, eq-eqb, leb-true, le-leb, not-false}
 use Rattle.columns.specs.declared.Found.the-variants.{At}
 use Rattle.columns.specs.Column.{Bytes}
 use Rattle.columns.specs.First.{firstFrom}
-use Rattle.columns.proofs.First.{first-none, at-first}
+use Rattle.columns.proofs.First.{first-none, none-first, at-first}
 use Rattle.places.specs.declared.Pos.{Pos}
 use Rattle.places.specs.Places.{samePos, before}
 use Rattle.places.proofs.Order.{samePos-true, samePos-refl, before-irrefl, before-trans}
@@ -20,11 +20,11 @@ use Rattle.places.proofs.Steps.{InRange}
 use Rattle.world.specs.Rows.{rows, posOf}
 use Rattle.world.specs.Find.{standsAt, find}
 use Rattle.refusals.specs.declared.Checked.the-variants.{Accepted}
-use Rattle.refusals.specs.Good.{goodProfile, goodRow}
+use Rattle.layout.specs.Good.{goodProfile}
 use Rattle.refusals.specs.Accepted.{Table}
-use Rattle.refusals.specs.Check.{isBad, isMisplaced, checkRows, checkTable, checkInput}
+use Rattle.refusals.specs.Check.{isBad, isMisplaced, checkRows, checkTable, checkInput, IsAccepted}
 use Rattle.refusals.proofs.Passed.{passed-unless, passed-at}
-use Rattle.refusals.proofs.Fields.{good-fields}
+use Rattle.layout.proofs.Fields.{Place, good-field, good-range}
 
 -- ---- an accepted table
 
@@ -43,10 +43,25 @@ accepted-table t h =
       ordered = λ i l. not-false _ (first-none (isMisplaced t) (rows t - 1) 0 d i (omega arith) (omega arith));
     }
 
+-- and a table that is so is accepted
+pub table-accepted : (t : Bytes) → Table t → checkTable t ≡ Accepted
+unfolding checkTable checkRows
+table-accepted t a =
+    rw (
+      eq-eqb (length t % 32) 0 (omega (arith, a .whole)),
+      le-leb (rows t) 1024 (a .few),
+      none-first (isBad t) (rows t) 0 (λ i _ l. rw (a .good i (omega arith))),
+      none-first (isMisplaced t) (rows t - 1) 0 (λ i _ l. rw (a .ordered i (omega arith))),
+    )
+
 -- of a call with the profile
 pub accepted-input : (p t : Bytes) → checkInput p t ≡ Accepted → (goodProfile p ≡ true) × Table t
 unfolding checkInput
 accepted-input p t h = let (a, b) = passed-unless 1 (goodProfile p) _ h in (a, accepted-table t b)
+
+pub input-accepted : (p t : Bytes) → goodProfile p ≡ true → Table t → IsAccepted p t
+unfolding checkInput
+input-accepted p t g a = rw (g, table-accepted t a)
 
 module _ (t : Bytes) (a : Table t) where
   in-order : (i k : ℕ) → i + suc k < rows t → before (posOf t i) (posOf t (i + suc k)) ≡ true
@@ -90,4 +105,4 @@ module _ (t : Bytes) (a : Table t) where
 
   -- every position is in range
   pub in-range : (i : ℕ) → i < rows t → InRange (posOf t i)
-  in-range i h = good-fields t i (a .good i h) .place
+  in-range i h = good-range (posOf t i) (good-field t i (a .good i h) Place)

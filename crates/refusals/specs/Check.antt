@@ -13,7 +13,7 @@ use Rattle.places.specs.Places.{before}
 use Rattle.world.specs.Rows.{rows, posOf}
 use Rattle.refusals.specs.declared.Checked.{Checked}
 use Rattle.refusals.specs.declared.Checked.the-variants.{Accepted, Refused}
-use Rattle.refusals.specs.Good.{goodProfile, goodRow}
+use Rattle.layout.specs.Good.{goodProfile, goodRow}
 
 -- ---- one test after the other
 

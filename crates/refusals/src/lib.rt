@@ -1,5 +1,4 @@
 // The refusals: which of them falls on the inputs of a call, and the number that the call answers then.
-pub mod good;
 mod scan;
 
 use columns::Found;
@@ -52,7 +51,7 @@ pub fn check_table(table: &[u8]) -> Checked
 pub fn check_input(profile: &[u8], table: &[u8]) -> Checked
     ensures { λ r. ⌜ r ≡ checkInput (now (profile .entry)) (now (table .entry)) ⌝ }
 {
-    if good::good_profile(profile) {
+    if layout::good_profile(profile) {
         return check_table(table);
     }
     Checked::Refused { number: 1, row: 0 }

@@ -9,7 +9,7 @@ use borrow.Author.Tests.{eq-eqb, ne-eqb, le-leb, lt-leb}
 use Rattle.columns.specs.Column.{Bytes}
 use Rattle.world.specs.Rows.{rows}
 use Rattle.refusals.specs.declared.Checked.the-variants.{Accepted, Refused}
-use Rattle.refusals.specs.Good.{goodProfile}
+use Rattle.layout.specs.Good.{goodProfile}
 use Rattle.refusals.specs.Check.{checkInput}
 use Rattle.refusals.proofs.Accepted.{accepted-input}
 use Rattle.electrical.specs.Answer.{checkCall, checkSettle}

@@ -110,7 +110,7 @@ pub fn switch(
     if let Checked::Refused { number: _, row: _ } = checked {
         return refusals::answer(checked, 0);
     }
-    updates::switch::set_powered(table, Pos::new(x, y, z), powered);
+    switching::set_powered(table, Pos::new(x, y, z), powered);
     let mut devices = [0u8; 1024];
     let n = rows(table);
     run::settle_state(
