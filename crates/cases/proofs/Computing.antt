@@ -21,7 +21,11 @@ use Rattle.electrical.specs.Edges.{outputsTo, isSupportOf, isCharged, emittedTo
 use Rattle.electrical.specs.Answer.{roundsOf, settled, checkCall, checkSettle}
 use Rattle.states.specs.Row.{delayOf, bitsSet, isCandidate, goodQueue, goodLamp, goodTorch, goodState}
 use Rattle.states.specs.Fresh.{freshDevice, freshQueue, freshLamp, freshRow}
-use Rattle.devices.specs.Step.{repeaterInputLevel, isRequested, locksFrom, isLocked, nextQueue, repeaterRow, torchSupportIsPowered, nextToggles, nextCandidate, torchRow, compared, nextComparator, deviceRow, nextLit, nextLeft, lampRow}
+use Rattle.repeater.specs.Step.{repeaterInputLevel, isRequested, locksFrom, isLocked, nextQueue, repeaterRow}
+use Rattle.torch.specs.Step.{torchSupportIsPowered, nextToggles, nextCandidate, torchRow}
+use Rattle.comparator.specs.Step.{compared, nextComparator}
+use Rattle.lamp.specs.Step.{nextLit, nextLeft, lampRow}
+use Rattle.devices.specs.Step.{deviceRow}
 use Rattle.updates.specs.State.{devicesOf, checkState, freshDevices, freshState}
 use Rattle.updates.specs.Tick.{withDevices, withLamps, settledOf, setDevices, setLamps, tick, ticks}
 use Rattle.switching.specs.Switch.{switched}

@@ -15,7 +15,7 @@ use Rattle.refusals.proofs.Accepted.{accepted-input}
 use Rattle.electrical.specs.Answer.{checkCall, checkSettle}
 use Rattle.electrical.proofs.Demand.{never-unsettled}
 use Rattle.updates.specs.State.{freshDevices}
-use Rattle.sim.proofs.Valid.{fresh-devices-valid}
+use Rattle.running.proofs.Valid.{fresh-devices-valid}
 use Rattle.updates.specs.Calls.{checkFresh}
 use Rattle.report.specs.Text.{refusalText, textOf, profileOf, tableOf, checkRun, checkWhole, runText, settleText}
 use Rattle.report.specs.Put.{Lent}

@@ -12,7 +12,7 @@ use Rattle.refusals.specs.Check.{answerOf}
 use Rattle.electrical.specs.Answer.{roundsOf, settled, Columns}
 use Rattle.updates.specs.State.{devicesOf, freshDevices, freshState}
 use Rattle.updates.specs.Tick.{ticks}
-use Rattle.sim.specs.Running.{HoldsSettled, Settled}
+use Rattle.running.specs.Running.{HoldsSettled, Settled}
 use Rattle.switching.specs.Switch.{switched}
 use Rattle.updates.specs.Calls.{checkFresh, checkStep, checkTick, Fresh, Ticks, Switches}
 
