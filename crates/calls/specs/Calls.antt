@@ -13,7 +13,8 @@ use Rattle.refusals.specs.Check.{answerOf, written}
 use Rattle.electrical.specs.Answer.{roundsOf, settled, checkSettle}
 use Rattle.updates.specs.State.{devicesOf, freshDevices, freshState}
 use Rattle.updates.specs.Tick.{ticks}
-use Rattle.updates.specs.Calls.{checkFresh, checkStep, checkTick, switched}
+use Rattle.switching.specs.Switch.{switched}
+use Rattle.updates.specs.Calls.{checkFresh, checkStep, checkTick}
 use Rattle.records.specs.Record.{posAt, after, sliceOf, number, hasParts, isSmall}
 
 -- ---- what a call is lent

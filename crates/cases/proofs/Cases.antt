@@ -19,7 +19,7 @@ use Rattle.electrical.specs.Answer.{roundsOf, settled, checkSettle}
 use Rattle.states.specs.Row.{deviceOf, togglesOf, candidateOf, delayOf, bitsSet}
 use Rattle.updates.specs.State.{sixteen, freshDevices, freshState}
 use Rattle.updates.specs.Tick.{tick, ticks}
-use Rattle.updates.specs.Calls.{switched}
+use Rattle.switching.specs.Switch.{switched}
 use Rattle.text.specs.Text.{ascii}
 use Rattle.report.specs.Text.{settleText}
 use Rattle.cases.proofs.Computing.{computing}

@@ -10,7 +10,7 @@ use Rattle.places.specs.Places.{samePos, before, opposite, step, horizontalOffs
 use Rattle.world.specs.Rows.{posOf, supportOf, armEntry, storedArm}
 use Rattle.world.specs.Find.{find, kindAt}
 use Rattle.world.specs.Traits.{plain, ofShape, traits, traitsAt}
-use Rattle.refusals.specs.Good.{goodProfile, goodPlace, goodRow}
+use Rattle.layout.specs.Good.{goodProfile, goodPlace, goodRow}
 use Rattle.refusals.specs.Check.{checkRows, checkTable, checkInput}
 use Rattle.connectivity.specs.Ports.{ahead, outputOf, inputOf, across, sidesOf}
 use Rattle.wire.specs.Arms.{connects, componentConnects, joins, rises, drops, inferPast, inferWireConnection, armOf, hasArm}
@@ -21,10 +21,15 @@ use Rattle.electrical.specs.Edges.{outputsTo, isSupportOf, isCharged, emittedTo
 use Rattle.electrical.specs.Answer.{roundsOf, settled, checkCall, checkSettle}
 use Rattle.states.specs.Row.{delayOf, bitsSet, isCandidate, goodQueue, goodLamp, goodTorch, goodState}
 use Rattle.states.specs.Fresh.{freshDevice, freshQueue, freshLamp, freshRow}
-use Rattle.devices.specs.Step.{repeaterInputLevel, isRequested, locksFrom, isLocked, nextQueue, repeaterRow, torchSupportIsPowered, nextToggles, nextCandidate, torchRow, compared, nextComparator, deviceRow, nextLit, nextLeft, lampRow}
+use Rattle.repeater.specs.Step.{repeaterInputLevel, isRequested, locksFrom, isLocked, nextQueue, repeaterRow}
+use Rattle.torch.specs.Step.{torchSupportIsPowered, nextToggles, nextCandidate, torchRow}
+use Rattle.comparator.specs.Step.{compared, nextComparator}
+use Rattle.lamp.specs.Step.{nextLit, nextLeft, lampRow}
+use Rattle.devices.specs.Step.{deviceRow}
 use Rattle.updates.specs.State.{devicesOf, checkState, freshDevices, freshState}
 use Rattle.updates.specs.Tick.{withDevices, withLamps, settledOf, setDevices, setLamps, tick, ticks}
-use Rattle.updates.specs.Calls.{checkFresh, checkStep, checkTick, switched}
+use Rattle.switching.specs.Switch.{switched}
+use Rattle.updates.specs.Calls.{checkFresh, checkStep, checkTick}
 use Rattle.text.specs.Text.{decimalWithin, decimalOf, signedText, lineOf}
 use Rattle.lines.specs.Lines.{rowText, settledText, refusalText}
 use Rattle.report.specs.Text.{checkRun, checkWhole, runText, settleText}

@@ -1,4 +1,4 @@
 -- Laws of accepted tables.
 pub mod Passed
-pub mod Fields
 pub mod Accepted
+pub mod Again

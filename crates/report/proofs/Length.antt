@@ -20,7 +20,7 @@ use Rattle.blocks.specs.Kind.{RedstoneTorch, Repeater, Comparator}
 use Rattle.world.specs.Rows.{rows, byteOf, posOf, kindOf, poweredOf, isPowered}
 use Rattle.refusals.specs.declared.Checked.{Checked}
 use Rattle.refusals.specs.declared.Checked.the-variants.{Accepted, Refused}
-use Rattle.refusals.specs.Good.{goodProfile}
+use Rattle.layout.specs.Good.{goodProfile}
 use Rattle.refusals.specs.Check.{refuseUnless, refuseAt, isBad, isMisplaced, checkRows, checkTable, checkInput}
 use Rattle.refusals.proofs.Accepted.{accepted-input, in-range}
 use Rattle.electrical.specs.Answer.{roundsOf, settled}

@@ -1,4 +1,4 @@
--- Laws of a fresh row: its length, what it reads, and that it is valid.
+-- Laws of a fresh row: its length, and that it is valid.
 -- Assumes nothing.
 use mathlib.Core.Path.{_≡_, refl}
 use mathlib.Core.Logic.{by-cases}
@@ -11,25 +11,19 @@ use lib.ListN.{length}
 use lib.Dec.{eqb, leb, ltb}
 use lib.Pow.{pow-pos}
 use borrow.Author.Tests.{eq-eqb, ne-eqb, lt-ltb}
-use Rattle.columns.specs.Column.{Bytes}
-use Rattle.network.specs.Network.{State}
+use Rattle.columns.specs.Column.{Bytes, Column}
 use Rattle.blocks.specs.Kind.{RedstoneTorch, Repeater, Comparator, RedstoneLamp}
 use Rattle.world.specs.Rows.{kindOf, poweredOf, isPowered}
 use Rattle.electrical.specs.Emitted.{goodDevice}
 use Rattle.states.specs.Row.{delayOf, bitsSet, isCandidate, goodQueue, goodLamp, goodTorch, goodState}
-use Rattle.states.specs.Fresh.{powersOf, freshDevice, freshQueue, hasPower, freshLamp, freshRow}
+use Rattle.levels.specs.Numbers.{hasPower}
+use Rattle.states.specs.Fresh.{freshDevice, freshQueue, freshLamp, freshRow}
 use Rattle.states.proofs.Powers.{delay-range}
 use Rattle.states.proofs.Parts.{whole}
 
-module _ (t : Bytes) (s : State) (i : ℕ) where
-  pub length-fresh : length (freshRow t s i) ≡ 16
-  unfolding freshRow
-  length-fresh = refl
-
-  -- it reads the power alone
-  pub fresh-reads : freshRow t (powersOf (s .weak) (s .strong)) i ≡ freshRow t s i
-  unfolding freshLamp freshRow
-  fresh-reads = refl
+pub length-fresh : (t : Bytes) (weak strong : Column) (i : ℕ) → length (freshRow t weak strong i) ≡ 16
+unfolding freshRow
+length-fresh t weak strong i = refl
 
 -- ---- it is valid
 
@@ -74,22 +68,22 @@ module _ (t : Bytes) (i : ℕ) where
   bits : suc (delayOf t i - 1) ≡ delayOf t i
   bits = omega (arith, delay-range t i)
 
-  fresh-queue : (s : State) → goodQueue t i (freshRow t s i) ≡ true
+  fresh-queue : (weak strong : Column) → goodQueue t i (freshRow t weak strong i) ≡ true
   unfolding goodQueue freshRow freshQueue freshDevice
-  fresh-queue s =
+  fresh-queue weak strong =
       by-cases (ℕ-discrete (kindOf t i) Repeater)
       (λ k. rw (k, ← bits) (filled-queue (isPowered t i) (delayOf t i - 1)))
       (λ n. rw (ne-eqb (kindOf t i) Repeater n))
 
   -- a fresh row is valid
-  pub fresh-good : (s : State) → goodState t i (freshRow t s i) ≡ true
+  pub fresh-good : (weak strong : Column) → goodState t i (freshRow t weak strong i) ≡ true
   unfolding freshRow goodLamp goodTorch freshLamp bitsSet isCandidate
-  fresh-good s =
-      whole t i (freshRow t s i)
+  fresh-good weak strong =
+      whole t i (freshRow t weak strong i)
       (record {
         device = fresh-device;
-        queue = fresh-queue s;
-        lamp = lamp-of (eqb (kindOf t i) RedstoneLamp) (hasPower s i);
+        queue = fresh-queue weak strong;
+        lamp = lamp-of (eqb (kindOf t i) RedstoneLamp) (hasPower weak strong i);
         torch = either (eqb (kindOf t i) RedstoneTorch) refl refl;
         rest = refl;
       })

@@ -1,13 +1,13 @@
 -- The fresh state of a row: `RedstoneTickSimulator::new`.
 -- Assumes nothing.
-use mathlib.Core.Bool.{Bool, not, cond, _&&_}
-use mathlib.Core.List.{[], _∷_}
-use Prim.Native.Nat.{ℕ, _*_, _-_, _^_, max}
+use mathlib.Core.Bool.{cond, _&&_}
+use mathlib.Core.List.{_∷_}
+use Prim.Native.Nat.{ℕ, _*_, _-_, _^_}
 use lib.ListN.{replicate}
 use lib.Dec.{eqb}
-use Rattle.columns.specs.Column.{Bytes, Column, row}
+use Rattle.columns.specs.Column.{Bytes, Column}
 use Rattle.columns.specs.Signal.{maxSignal}
-use Rattle.network.specs.Network.{State}
+use Rattle.levels.specs.Numbers.{hasPower}
 use Rattle.blocks.specs.Kind.{RedstoneTorch, Repeater, Comparator, RedstoneLamp}
 use Rattle.world.specs.Rows.{kindOf, poweredOf, isPowered, levelOr}
 use Rattle.states.specs.Row.{delayOf}
@@ -24,25 +24,10 @@ freshDevice t i =
 unfoldable pub freshQueue : Bytes → ℕ → ℕ
 freshQueue t i = cond (eqb (kindOf t i) Repeater) (freshDevice t i * (2 ^ delayOf t i - 1)) 0
 
--- the numbers of a settled state, as three columns hold them: no step reads which rows the power map holds
-abbrev pub numbersOf : Column → Column → Column → State
-numbersOf signal weak strong = record { signal = signal; onMap = []; weak = weak; strong = strong }
-
--- the power alone: neither a torch nor a lamp reads a signal
-abbrev pub powersOf : Column → Column → State
-powersOf weak strong = numbersOf [] weak strong
-
--- the larger of weak and strong power at row i of a settled state
-abbrev pub powerAt : State → ℕ → ℕ
-powerAt s i = max (row (s .weak) i) (row (s .strong) i)
-
-abbrev pub hasPower : State → ℕ → Bool
-hasPower s i = not (eqb (powerAt s i) 0)
-
 -- "lamps from settled power"
-unfoldable pub freshLamp : Bytes → State → ℕ → ℕ
-freshLamp t s i = cond (eqb (kindOf t i) RedstoneLamp && hasPower s i) 1 0
+unfoldable pub freshLamp : Bytes → Column → Column → ℕ → ℕ
+freshLamp t weak strong i = cond (eqb (kindOf t i) RedstoneLamp && hasPower weak strong i) 1 0
 
 -- the sixteen bytes of row i
-unfoldable pub freshRow : Bytes → State → ℕ → Bytes
-freshRow t s i = freshDevice t i ∷ freshQueue t i ∷ freshLamp t s i ∷ replicate 13 0
+unfoldable pub freshRow : Bytes → Column → Column → ℕ → Bytes
+freshRow t weak strong i = freshDevice t i ∷ freshQueue t i ∷ freshLamp t weak strong i ∷ replicate 13 0

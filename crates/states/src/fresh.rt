@@ -1,9 +1,9 @@
 // The fresh state of a row.
 use crate::bits::two_to;
-use crate::level::has_power;
-use crate::level::number;
 use crate::row::delay_of;
 use blocks::kind;
+use levels::has_power;
+use levels::number;
 use world::row::is_powered;
 use world::row::kind_of;
 use world::row::level_or;
@@ -14,7 +14,7 @@ ghost use mathlib.Core.Bool.{cond};
 ghost use Prim.Native.Nat.{_<_};
 ghost use lib.ListN.{length, replicate};
 ghost use Rattle.columns.specs.Signal.{maxSignal};
-ghost use Rattle.states.specs.Fresh.{powersOf, freshDevice, freshQueue, freshLamp, freshRow};
+ghost use Rattle.states.specs.Fresh.{freshDevice, freshQueue, freshLamp, freshRow};
 
 // The level of a comparator that gives none.
 fn missing_level(powered: bool) -> u8
@@ -47,7 +47,7 @@ fn fresh_queue(table: &[u8], row: usize) -> u8
 }
 
 fn fresh_lamp(table: &[u8], weak: &[u8], strong: &[u8], row: usize) -> u8
-    ensures { λ r. ⌜ r ≡ freshLamp (now (table .entry)) (powersOf (now (weak .entry)) (now (strong .entry))) row ⌝ }
+    ensures { λ r. ⌜ r ≡ freshLamp (now (table .entry)) (now (weak .entry)) (now (strong .entry)) row ⌝ }
 {
     number((kind_of(table, row) == kind::REDSTONE_LAMP) & has_power(weak, strong, row))
 }
@@ -66,7 +66,7 @@ fn clear(sixteen: &mut [u8])
 // The sixteen bytes of a row that was just built, from the settled power.
 pub fn fresh_step(table: &[u8], weak: &[u8], strong: &[u8], row: usize, sixteen: &mut [u8])
     requires { ⌜ length (now sixteen) ≡ 16 ⌝ }
-    ensures { λ _. ⌜ now (sixteen .exit) ≡ freshRow (now (table .entry)) (powersOf (now (weak .entry)) (now (strong .entry))) row ⌝ }
+    ensures { λ _. ⌜ now (sixteen .exit) ≡ freshRow (now (table .entry)) (now (weak .entry)) (now (strong .entry)) row ⌝ }
 {
     clear(sixteen);
     sixteen[0] = fresh_device(table, row);

@@ -1,5 +1,4 @@
 // One row's sixteen bytes of state: their fields, whether they are valid, and the fresh ones.
 pub mod bits;
 pub mod fresh;
-pub mod level;
 pub mod row;
