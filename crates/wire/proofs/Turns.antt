@@ -21,20 +21,20 @@ next-facing (suc (suc (suc zero))) g h = refl
 next-facing (suc (suc (suc (suc zero)))) g h = refl
 next-facing (suc (suc (suc (suc (suc f))))) g h = absurd (omega arith)
 
-module _ (p t : Bytes) (j i : ℕ) where
+module _ (arm : ℕ → ℕ → ℕ) (p t : Bytes) (j i : ℕ) where
   -- the first rule from the facing f on
   abbrev pub fromFacing : ℕ → DustTransfer
-  fromFacing f = firstRule (ruleAlong p t j i) (drop (f - 1) horizontals)
+  fromFacing f = firstRule (ruleAlong arm p t j i) (drop (f - 1) horizontals)
 
   module _ (f : ℕ) where
     -- the first of the n rules from the height step k on, along f, or what comes next
     unfoldable pub fromStep : ℕ → ℕ → DustTransfer → DustTransfer
     fromStep zero k next = next
-    fromStep (suc n) k next = let later = fromStep n (k + 1) next in cond (fits p t j i f k) (ruleOf k) later
+    fromStep (suc n) k next = let later = fromStep n (k + 1) next in cond (fits arm p t j i f k) (ruleOf k) later
 
-    along : (next : DustTransfer) → orRule (ruleAlong p t j i f) next ≡ fromStep 3 0 next
+    along : (next : DustTransfer) → orRule (ruleAlong arm p t j i f) next ≡ fromStep 3 0 next
     unfolding ruleAlong fits fromStep
-    along next = go (fitsHorizontal p t j i f) (fitsRise p t j i f) (fitsFall p t j i f)
+    along next = go (fitsHorizontal arm t j i f) (fitsRise arm p t j i f) (fitsFall arm p t j i f)
       where
         go : (a b c : Bool) → orRule (cond a Horizontal (cond b Rise (cond c FallThroughConductor NoTransfer))) next ≡ cond a Horizontal (cond b Rise (cond c FallThroughConductor next))
         go true b c = refl
@@ -50,11 +50,11 @@ module _ (p t : Bytes) (j i : ℕ) where
       left : 3 - k ≡ suc (3 - (k + 1))
       left = omega arith
 
-      pub hit : fits p t j i f k ≡ true → fromStep (3 - k) k next ≡ ruleOf k
+      pub hit : fits arm p t j i f k ≡ true → fromStep (3 - k) k next ≡ ruleOf k
       unfolding fromStep
       hit e = rw (left, e)
 
-      pub miss : fits p t j i f k ≡ false → fromStep (3 - k) k next ≡ fromStep (3 - (k + 1)) (k + 1) next
+      pub miss : fits arm p t j i f k ≡ false → fromStep (3 - k) k next ≡ fromStep (3 - (k + 1)) (k + 1) next
       unfolding fromStep
       miss e = rw (left, e)
 

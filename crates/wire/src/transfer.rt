@@ -11,6 +11,7 @@ use world::row::pos_of;
 use world::traits::traits_at;
 ghost use mathlib.Core.Path.{_≡_};
 ghost use Rattle.places.specs.Places.{horizontals};
+ghost use Rattle.wire.specs.Arms.{armOf};
 ghost use Rattle.wire.specs.Transfer.{fitsHorizontal, fitsRise, fitsFall, fits, ruleAlong, ruleOf, firstRule, transferOf, dustTransfer, isTransfer, transmits, dustTransmits};
 
 // The rule by which power goes from one dust to another, or none: `Option<DustTransfer>`.
@@ -23,7 +24,7 @@ pub enum DustTransfer {
 
 // Whether the sink, row i, is beside the source, row j, and both have the arm.
 fn fits_horizontal(profile: &[u8], table: &[u8], j: usize, i: usize, facing: u8) -> bool
-    ensures { λ r. ⌜ r ≡ fitsHorizontal (now (profile .entry)) (now (table .entry)) j i facing ⌝ }
+    ensures { λ r. ⌜ r ≡ fitsHorizontal (armOf (now (profile .entry)) (now (table .entry))) (now (table .entry)) j i facing ⌝ }
 {
     let side = pos_of(table, j).beside(Facing { code: facing });
     if side.same(pos_of(table, i)) {
@@ -35,7 +36,7 @@ fn fits_horizontal(profile: &[u8], table: &[u8], j: usize, i: usize, facing: u8)
 
 // Whether the sink is above the cell beside, whose rise is the source's arm.
 fn fits_rise(profile: &[u8], table: &[u8], j: usize, i: usize, facing: u8) -> bool
-    ensures { λ r. ⌜ r ≡ fitsRise (now (profile .entry)) (now (table .entry)) j i facing ⌝ }
+    ensures { λ r. ⌜ r ≡ fitsRise (armOf (now (profile .entry)) (now (table .entry))) (now (profile .entry)) (now (table .entry)) j i facing ⌝ }
 {
     let side = pos_of(table, j).beside(Facing { code: facing });
     if side.above().same(pos_of(table, i)) {
@@ -46,7 +47,7 @@ fn fits_rise(profile: &[u8], table: &[u8], j: usize, i: usize, facing: u8) -> bo
 
 // Whether the sink is below the cell beside, and the block under the source drives dust with the sink's arm back for its rise.
 fn fits_fall(profile: &[u8], table: &[u8], j: usize, i: usize, facing: u8) -> bool
-    ensures { λ r. ⌜ r ≡ fitsFall (now (profile .entry)) (now (table .entry)) j i facing ⌝ }
+    ensures { λ r. ⌜ r ≡ fitsFall (armOf (now (profile .entry)) (now (table .entry))) (now (profile .entry)) (now (table .entry)) j i facing ⌝ }
 {
     let source = pos_of(table, j);
     if source
@@ -62,7 +63,7 @@ fn fits_fall(profile: &[u8], table: &[u8], j: usize, i: usize, facing: u8) -> bo
 
 // Whether the rule of a height step fits: 0 level, 1 up, 2 down.
 fn fits(profile: &[u8], table: &[u8], j: usize, i: usize, facing: u8, step: u8) -> bool
-    ensures { λ r. ⌜ r ≡ fits (now (profile .entry)) (now (table .entry)) j i facing step ⌝ }
+    ensures { λ r. ⌜ r ≡ fits (armOf (now (profile .entry)) (now (table .entry))) (now (profile .entry)) (now (table .entry)) j i facing step ⌝ }
 {
     match step {
         0 => fits_horizontal(profile, table, j, i, facing),
@@ -83,7 +84,7 @@ fn rule_of(step: u8) -> DustTransfer
 
 // The first rule that fits, facing by facing.
 fn first_rule(profile: &[u8], table: &[u8], j: usize, i: usize) -> DustTransfer
-    ensures { λ r. ⌜ r ≡ firstRule (ruleAlong (now (profile .entry)) (now (table .entry)) j i) horizontals ⌝ }
+    ensures { λ r. ⌜ r ≡ firstRule (ruleAlong (armOf (now (profile .entry)) (now (table .entry))) (now (profile .entry)) (now (table .entry)) j i) horizontals ⌝ }
 {
     let mut found = DustTransfer::NoTransfer;
     'facings: for facing in 1..=4 {

@@ -1,6 +1,6 @@
 -- `wire::transfer::transfer_rows` meets its contract. Assumes nothing.
 use borrow.Author.Needs.{needs}
-use Rattle.wire.specs.Transfer.{transferOf}
+use Rattle.wire.specs.Transfer.{transferBy}
 use Rattle.wire.proofs.transfer.transfer_rows.Statement.{statement}
 use Rattle.wire.proofs.transfer.transfer_rows.Tie as tie
 
@@ -14,12 +14,12 @@ first-rule-requires : tie.Need-first-rule-requires
 first-rule-requires c κs = search needs
 
 returns : tie.Need-returns
-unfolding transferOf
+unfolding transferBy
 returns c =
     rw (← c .before .before .before .kind-of .ensures, ← c .before .before .kind-of2 .ensures, c .before .if1 .taken) (c .first-rule .ensures)
 
 returns-2 : tie.Need-returns-2
-unfolding transferOf
+unfolding transferBy
 returns-2 c = rw (← c .before .before .kind-of .ensures, ← c .before .kind-of2 .ensures, c .if1 .left)
 
 pub transfer-rows-spec : {M : Type 1} → statement M

@@ -1,6 +1,6 @@
 -- `wire::transfer::transmits` meets its contract. Assumes nothing.
 use borrow.Author.Needs.{needs}
-use Rattle.wire.specs.Transfer.{transmits}
+use Rattle.wire.specs.Transfer.{transmitsBy}
 use Rattle.wire.proofs.transfer.transmits.Statement.{statement}
 use Rattle.wire.proofs.transfer.transmits.Tie as tie
 
@@ -11,7 +11,7 @@ is-transfer-requires : tie.Need-is-transfer-requires
 is-transfer-requires c κs = search needs
 
 returns : tie.Need-returns
-unfolding transmits
+unfolding transmitsBy
 returns c = cc
 
 pub transmits-spec : {M : Type 1} → statement M
