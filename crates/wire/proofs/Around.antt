@@ -10,14 +10,15 @@ use lib.IntN.{ℤ, negℤ}
 use lib.Signed.{mag}
 use Rattle.blocks.specs.Kind.{isDust}
 use Rattle.columns.specs.Column.{Bytes}
-use Rattle.columns.proofs.Truth.{and-true}
+use Rattle.columns.proofs.Truth.{and-true, or-true}
 use Rattle.places.specs.Places.{horizontals, opposite, beside, above, below, samePos}
 use Rattle.places.proofs.Order.{samePos-true}
 use Rattle.places.proofs.Steps.{InRange, sideways, opposite-horizontal, sideways-back, above-beside, below-beside, around, Step, down, level, up, is-around}
 use Rattle.world.specs.Rows.{posOf, kindOf}
 use Rattle.wire.specs.declared.transfer.DustTransfer.{DustTransfer}
 use Rattle.wire.specs.declared.transfer.DustTransfer.the-variants.{Horizontal, Rise, FallThroughConductor, NoTransfer}
-use Rattle.wire.specs.Transfer.{fitsHorizontal, fitsRise, fitsFall, ruleAlong, orRule, firstRule, transferBy, isTransfer, transmitsBy}
+use Rattle.wire.specs.Transfer.{fitsHorizontal, fitsRise, fitsFall, ruleAlong, firstRule, transferBy, isTransfer, transmitsBy}
+use Rattle.wire.proofs.Any.{or-any}
 
 -- some facing of the list has a rule that fits
 record Fits (rule : ℕ → DustTransfer) (fs : List ℕ) : Type 0 where
@@ -25,16 +26,10 @@ record Fits (rule : ℕ → DustTransfer) (fs : List ℕ) : Type 0 where
   inside : List·Memᴰ along fs
   fits : isTransfer (rule along) ≡ true
 
-or-rule : (r later : DustTransfer) → isTransfer (orRule r later) ≡ true → (isTransfer r ≡ true) ⊎ (isTransfer later ≡ true)
-or-rule Horizontal later h = inl refl
-or-rule Rise later h = inl refl
-or-rule FallThroughConductor later h = inl refl
-or-rule NoTransfer later h = inr h
-
 first-fits : (rule : ℕ → DustTransfer) (fs : List ℕ) → isTransfer (firstRule rule fs) ≡ true → Fits rule fs
 unfolding firstRule
 first-fits rule [] h = absurd (false≢true h)
-first-fits rule (f ∷ fs) h = go (first-fits rule fs) (or-rule (rule f) (firstRule rule fs) h)
+first-fits rule (f ∷ fs) h = go (first-fits rule fs) (or-true _ _ (rw (or-any (rule f) (firstRule rule fs)) at h))
   where
     go : (isTransfer (firstRule rule fs) ≡ true → Fits rule fs) → (isTransfer (rule f) ≡ true) ⊎ (isTransfer (firstRule rule fs) ≡ true) → Fits rule (f ∷ fs)
     go r (inl e) = record { along = f; inside = List·Memᴰ·head refl; fits = e }

@@ -31,7 +31,9 @@ has-arm-requires-2 : tie.Need-has-arm-requires-2
 has-arm-requires-2 c κs = search needs
 
 -- the test asks whether the sink is beside
-sink : (c : tie.After-same) → samePos (beside (posOf (c .before .before .before .before .before .before .args .table .now) (c .before .before .before .before .before .before .args .j)) (c .before .before .before .before .before .before .args .facing)) (posOf (c .before .before .before .before .before .before .args .table .now) (c .before .before .before .before .before .before .args .i)) ≡ c .same .result
+sink : (c : tie.After-same)
+    → let a = c .before .before .before .before .before .before .args in
+    samePos (beside (posOf (a .table .now) (a .j)) (a .facing)) (posOf (a .table .now) (a .i)) ≡ c .same .result
 sink c = rw (← c .before .before .before .pos-of .ensures, ← c .before .before .beside .ensures, ← c .before .pos-of2 .ensures) (sym (c .same .ensures))
 
 returns : tie.Need-returns
