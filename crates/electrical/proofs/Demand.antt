@@ -9,7 +9,6 @@ use lib.ListN.{length}
 use borrow.Author.Tests.{le-leb, lt-leb}
 use Rattle.columns.specs.Column.{Bytes, Column, row}
 use Rattle.columns.specs.Signal.{maxSignal}
-use Rattle.columns.proofs.Truth.{or-false, and-false-left, and-false-right}
 use Rattle.network.specs.Network.{State, Rounds, Satisfies, Breaks}
 use Rattle.network.specs.Compare.{Larger, AtMost, Within, AtEveryRow₂, AtEveryRow₃, States₂, States₃, Bounded, PowerOnMap}
 use Rattle.network.specs.Demand as Network
@@ -19,11 +18,13 @@ use Rattle.world.specs.Traits.{traits, conducts}
 use Rattle.refusals.specs.declared.Checked.{Checked}
 use Rattle.refusals.specs.declared.Checked.the-variants.{Accepted, Refused}
 use Rattle.refusals.specs.Check.{orElse}
+use Rattle.wire.specs.Arms.{armOf}
 use Rattle.electrical.specs.Emitted.{IsValid, emitted}
-use Rattle.electrical.specs.Edges.{emittedToStrong, strongToWeak, dustToWeak, networkOf}
+use Rattle.electrical.specs.Edges.{networkOf}
 use Rattle.electrical.specs.Answer.{roundsOf, settled, checkCall, checkSettle}
 use Rattle.electrical.specs.Join.{largerOf, Joined, Called}
 use Rattle.electrical.proofs.Emitted.{emitted-larger, emitted-byte}
+use Rattle.electrical.proofs.Networks.{power-on-map}
 use Rattle.electrical.proofs.Devices.{valid-devices, devices-valid, is-larger, larger-devices}
 
 -- a call on which no later test falls
@@ -141,13 +142,8 @@ module _ {p t : Bytes} {a b c : Column} (j : AtEveryRow₃ Larger a b c) {k l m 
 
 -- power reaches only rows of the map
 pub on-map : (p t : Bytes) → PowerOnMap (networkOf p t)
-unfolding networkOf emittedToStrong strongToWeak dustToWeak
-on-map p t =
-    record {
-      emittedToStrong = λ j i h. and-false-left _ _ (or-false (traits p t i .weak) _ h .1);
-      strongToWeak = λ j i h. and-false-left _ _ (or-false (traits p t i .weak) _ h .0);
-      dustToWeak = λ j i h. and-false-right (isDust (kindOf t j)) _ (and-false-left _ _ (or-false (traits p t i .weak) _ h .0));
-    }
+unfolding networkOf
+on-map p t = power-on-map (armOf p t) p t
 
 module _ (p t : Bytes) (d : Column) where
   -- "power 0 off the map"

@@ -11,12 +11,13 @@ use Rattle.blocks.specs.Kind.{Air}
 use Rattle.columns.specs.Column.{Bytes}
 use Rattle.columns.specs.First.{firstFrom, onFound}
 use Rattle.places.specs.declared.Pos.{Pos}
-use Rattle.places.specs.Places.{horizontals, opposite, beside, above, below, samePos}
+use Rattle.places.specs.Places.{beside, above, below, samePos}
 use Rattle.world.specs.Rows.{rows, byteOf, wordOf, posOf, kindOf, facingOf, storedArm}
 use Rattle.world.specs.Find.{find, kindAt}
 use Rattle.world.specs.Traits.{nothing, traits, traitsAt}
-use Rattle.wire.specs.Arms.{connects, componentConnects, joins, rises, drops, inferPast, inferWireConnection, armOf, hasArm}
-use Rattle.wire.specs.Transfer.{fitsHorizontal, fitsRise, fitsFall, ruleAlong, firstRule, transferOf, isTransfer, transmits}
+use Rattle.wire.specs.Arms.{connects, componentConnects, joins, rises, drops, inferPast, inferWireConnection, armOf}
+use Rattle.wire.specs.Transfer.{transmits}
+use Rattle.wire.proofs.Same.{SameRow, same-transmits as transmits-same}
 
 -- the bytes of a row that are read
 abbrev pub Read : ℕ → Type 0
@@ -86,22 +87,8 @@ module _ {t u : Bytes} (a : Alike t u) where
     unfolding armOf
     same-arm i f = rw (same-kind i, stored i f, same-place i, same-infer p (posOf u i) f)
 
-    pub same-has-arm : (i f : ℕ) → hasArm p t i f ≡ hasArm p u i f
-    unfolding hasArm
-    same-has-arm i f = rw (same-arm i f)
-
-    same-along : (j i f : ℕ) → ruleAlong p t j i f ≡ ruleAlong p u j i f
-    unfolding ruleAlong fitsHorizontal fitsRise fitsFall
-    same-along j i f =
-        rw (same-place j, same-place i, same-has-arm j f, same-has-arm i (opposite f), same-arm j f, same-arm i (opposite f), same-traits-at p (beside (posOf u j) f), same-traits-at p (below (posOf u j)))
-
-    pub same-transfer : (j i : ℕ) → transferOf p t j i ≡ transferOf p u j i
-    unfolding transferOf
-    same-transfer j i =
-        let rules : firstRule (ruleAlong p t j i) horizontals ≡ firstRule (ruleAlong p u j i) horizontals =
-        λ x. firstRule (λ f. same-along j i f x) horizontals in
-        rw (same-kind j, same-kind i, rules)
+    same-row : (i : ℕ) → SameRow (armOf p t) (armOf p u) t u i
+    same-row i = record { kind = same-kind i; place = same-place i; arms = λ _ f _. same-arm i f }
 
     pub same-transmits : (j i : ℕ) → transmits p t j i ≡ transmits p u j i
-    unfolding transmits
-    same-transmits j i = ap isTransfer (same-transfer j i)
+    same-transmits j i = transmits-same (same-row j) (same-row i) p (record { side = λ f _. same-traits-at p (beside (posOf u j) f); under = same-traits-at p (below (posOf u j)) })
