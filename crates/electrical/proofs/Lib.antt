@@ -1,4 +1,5 @@
 pub mod Emitted
 pub mod Devices
+pub mod Answers
 pub mod Demand
 pub mod Apart
