@@ -12,6 +12,7 @@ use Rattle.world.specs.Find.{find, kindAt}
 use Rattle.world.specs.Traits.{plain, ofShape, traits, traitsAt}
 use Rattle.layout.specs.Good.{goodProfile, goodPlace, goodRow}
 use Rattle.refusals.specs.Check.{checkRows, checkTable, checkInput}
+use Rattle.supports.specs.Supports.{isSupported, lacksSupport, supportIssues, checkSupports}
 use Rattle.connectivity.specs.Ports.{ahead, outputOf, inputOf, across, sidesOf}
 use Rattle.wire.specs.Arms.{connects, componentConnects, joins, rises, drops, inferPast, inferWireConnection, armOf, hasArm}
 use Rattle.wire.specs.Transfer.{fitsHorizontal, fitsRise, fitsFall, fits, ruleAlong, firstRule, transferBy, dustTransfer, transmitsBy}
@@ -35,5 +36,5 @@ use Rattle.lines.specs.Lines.{rowText, settledText, refusalText}
 use Rattle.report.specs.Text.{checkRun, checkWhole, runText, settleText}
 
 unfoldable pub computing : ℕ
-unfolding tabulateFrom concatRowsFrom same firstFrom indicesFrom settling says signed32 signed8 clamp32 satAdd samePos before opposite step horizontalOffset beside adjacent posOf supportOf armEntry storedArm find kindAt plain ofShape traits traitsAt goodProfile goodPlace goodRow checkRows checkTable checkInput ahead outputOf inputOf across sidesOf connects componentConnects joins rises drops inferPast inferWireConnection armOf hasArm fitsHorizontal fitsRise fitsFall fits ruleAlong firstRule transferBy dustTransfer transmitsBy entryOf entriesOf withOpposite drawn redrawnRow updateWireShapes goodDevice checkDevices switchLevel emittedLevel emitted outputsTo isSupportOf isCharged emittedToStrong strongToWeak armTo alongArm touches feeds dustToWeakBy emittedToDustBy strongToDustBy networkOf roundsOf settled checkCall checkSettle devicesOf delayOf bitsSet isCandidate goodQueue goodLamp goodTorch goodState checkState freshDevice freshDevices freshQueue freshLamp freshRow freshState repeaterInputLevel isRequested locksFrom isLocked nextQueue repeaterRow torchSupportIsPowered nextToggles nextCandidate torchRow compared nextComparator deviceRow nextLit nextLeft lampRow withDevices withLamps settledOf setDevices setLamps tick ticks checkFresh checkStep checkTick switched decimalWithin decimalOf signedText lineOf rowText settledText refusalText checkRun checkWhole runText settleText
+unfolding tabulateFrom concatRowsFrom same firstFrom indicesFrom settling says signed32 signed8 clamp32 satAdd samePos before opposite step horizontalOffset beside adjacent posOf supportOf armEntry storedArm find kindAt plain ofShape traits traitsAt goodProfile goodPlace goodRow checkRows checkTable checkInput isSupported lacksSupport supportIssues checkSupports ahead outputOf inputOf across sidesOf connects componentConnects joins rises drops inferPast inferWireConnection armOf hasArm fitsHorizontal fitsRise fitsFall fits ruleAlong firstRule transferBy dustTransfer transmitsBy entryOf entriesOf withOpposite drawn redrawnRow updateWireShapes goodDevice checkDevices switchLevel emittedLevel emitted outputsTo isSupportOf isCharged emittedToStrong strongToWeak armTo alongArm touches feeds dustToWeakBy emittedToDustBy strongToDustBy networkOf roundsOf settled checkCall checkSettle devicesOf delayOf bitsSet isCandidate goodQueue goodLamp goodTorch goodState checkState freshDevice freshDevices freshQueue freshLamp freshRow freshState repeaterInputLevel isRequested locksFrom isLocked nextQueue repeaterRow torchSupportIsPowered nextToggles nextCandidate torchRow compared nextComparator deviceRow nextLit nextLeft lampRow withDevices withLamps settledOf setDevices setLamps tick ticks checkFresh checkStep checkTick switched decimalWithin decimalOf signedText lineOf rowText settledText refusalText checkRun checkWhole runText settleText
 computing = 0
