@@ -4,45 +4,32 @@ use differential::compare::Answers;
 use differential::generate::{self, BENCH_PROFILE, Case};
 use differential::oracle::{Oracle, pos};
 use differential::probe::{Probe, probe_find};
-use differential::redstone::{Call, Input, STATE, device_outputs, fresh_devices, pack};
-use differential::refusals::STATE_BYTES;
-use differential::table::{self, Position, Row, kind};
+use differential::redstone::{Call, Input, STATE, device_outputs, fresh_devices};
+use differential::table::Position;
 use original::electrical::solve_instantaneous;
 use original::sim::RedstoneTickSimulator;
-use redstone::{Columns, fresh, settle, switch, tick};
+use redstone::{Columns, Kind, Row, STATE_BYTES, fresh, settle, switch, tick};
 
 use crate::timing::{Medians, medians};
 
 pub fn cases() -> Vec<Case> {
     let dense = (0..).map(generate::case).find(|case| case.sort == "1,024 rows");
     vec![
-        line("15 dust in line, 31 rows", 15),
-        line("511 dust in line, 1,023 rows", 511),
+        Case::line("15 dust in line, 31 rows", 15),
+        Case::line("511 dust in line, 1,023 rows", 511),
         Case {
             sort: "dense, 1,024 rows",
-            ..with_bench_profile(dense.expect("some seed has such a table").table)
+            profile: BENCH_PROFILE.into(),
+            ..dense.expect("some seed has such a table")
         },
-        Case { sort: "no rows", ..with_bench_profile(Vec::new()) },
+        Case::new("no rows", BENCH_PROFILE, []),
     ]
-}
-
-fn with_bench_profile(table: Vec<u8>) -> Case {
-    Case { seed: 0, sort: "", profile: BENCH_PROFILE.into(), table }
-}
-
-/// Test 4 of the book, with as many dust.
-fn line(sort: &'static str, dust: i32) -> Case {
-    let mut rows = vec![Row::new([0, 1, 0], kind::REDSTONE_BLOCK)];
-    for x in 1..=dust {
-        rows.extend([Row::new([x, 0, 0], kind::SOLID), Row::new([x, 1, 0], kind::DUST)]);
-    }
-    Case { sort, ..with_bench_profile(table::encode(&rows)) }
 }
 
 /// A switch's position, or else the first row's.
 fn switched(rows: &[Row]) -> Position {
-    let lever = rows.iter().find(|row| row.kind == kind::LEVER);
-    lever.or(rows.first()).map_or([0; 3], |row| row.position)
+    let lever = rows.iter().find(|row| row.kind() == Kind::Lever);
+    lever.or(rows.first()).map_or([0; 3], Row::position)
 }
 
 pub fn assert_sides_agree(case: &Case) {
@@ -50,7 +37,7 @@ pub fn assert_sides_agree(case: &Case) {
     let rows = oracle.rows.len();
     let ask = |input| {
         let call = Call { input, columns: [rows; 3] };
-        let mut answer = oracle.answer(&call);
+        let answer = oracle.answer(&call);
         assert_eq!(answer, Probe(case).answer(&call), "{}", case.sort);
         answer.bytes(STATE)
     };
@@ -108,30 +95,27 @@ fn of_fresh(oracle: &Oracle) -> Medians {
     )
 }
 
-/// The original's simulator and the state that is the same.
-fn started(oracle: &Oracle) -> (RedstoneTickSimulator, Vec<u8>) {
-    let simulator = RedstoneTickSimulator::new(oracle.world().clone()).expect("the original settles");
-    let state = pack(&oracle.rows, &simulator.parts());
-    (simulator, state)
-}
-
 fn of_tick(oracle: &Oracle) -> Medians {
     let Case { profile, table, .. } = oracle.case;
     let mut levels = Levels::new(oracle.rows.len());
-    let (mut simulator, mut state) = started(oracle);
+    let mut started = oracle.started();
+    let mut state = oracle.packed(&started);
+    let simulator = started.get_mut();
     let medians = medians(
         || (),
         |()| simulator.advance_tick(),
         || tick(profile, table, &mut state, 0, 1, levels.columns()),
     );
-    assert!(state == pack(&oracle.rows, &simulator.parts()), "the sides' states differ");
+    assert!(state == oracle.packed(&started), "the sides' states differ");
     medians
 }
 
 fn of_switch(oracle: &Oracle) -> Medians {
     let profile = &oracle.case.profile;
     let (mut table, mut levels) = (oracle.case.table.clone(), Levels::new(oracle.rows.len()));
-    let (mut simulator, state) = started(oracle);
+    let mut started = oracle.started();
+    let state = oracle.packed(&started);
+    let simulator = started.get_mut();
     let at = switched(&oracle.rows);
     let (mut simulators, mut proved) = (false, false);
     medians(
@@ -150,7 +134,7 @@ fn of_switch(oracle: &Oracle) -> Medians {
 fn of_look_up(oracle: &Oracle) -> Medians {
     let table = &oracle.case.table;
     let world = oracle.world();
-    let mut positions: Vec<_> = oracle.rows.iter().map(|row| row.position).collect();
+    let mut positions: Vec<_> = oracle.rows.iter().map(Row::position).collect();
     positions.extend(oracle.rows.is_empty().then_some([0; 3]));
     let (mut originals, mut proved) = (positions.iter().cycle(), positions.iter().cycle());
     medians(

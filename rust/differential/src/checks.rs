@@ -1,10 +1,11 @@
 //! The refusals of profile and table: the proved check against the second reading of document 01.
 
+use redstone::{MOST_ROWS, ROW_BYTES};
+
 use crate::compare::{Alteration, Answer, Answers, Compared, Query, Tally, compare};
 use crate::generate::Case;
 use crate::probe::{Probe, probe_check};
 use crate::refusals::{self, REFUSED, Refusal};
-use crate::table::{MOST_ROWS, ROW_BYTES};
 
 #[derive(Debug)]
 pub struct Check;

@@ -4,15 +4,17 @@ use std::collections::BTreeMap;
 use std::fmt::{self, Debug, Display, Formatter};
 use std::io::Write;
 
+use redstone::ROW_BYTES;
+
 use crate::generate::Case;
+use crate::lent::Returned;
 use crate::refusals::REFUSED;
-use crate::table::ROW_BYTES;
 
 /// What a function returns, and the buffers lent to it as they come back.
 #[derive(Clone, Debug, Eq, PartialEq)]
 pub struct Answer {
     pub number: i128,
-    pub buffers: Vec<Lent<u16>>,
+    pub buffers: Vec<Returned>,
 }
 
 impl<N: Into<i128>> From<N> for Answer {
@@ -22,7 +24,7 @@ impl<N: Into<i128>> From<N> for Answer {
 }
 
 impl Answer {
-    pub fn with_buffers<const N: usize>(number: impl Into<i128>, buffers: [Lent<u16>; N]) -> Self {
+    pub fn with_buffers<const N: usize>(number: impl Into<i128>, buffers: [Returned; N]) -> Self {
         Self { number: number.into(), buffers: buffers.into() }
     }
 
@@ -33,37 +35,15 @@ impl Answer {
     }
 
     /// What a buffer of bytes came back with.
-    pub fn bytes(&mut self, buffer: usize) -> Vec<u8> {
-        self.buffers[buffer].entries().iter().map(|entry| *entry as u8).collect()
+    pub fn bytes(&self, buffer: usize) -> Vec<u8> {
+        self.buffers[buffer].entries.iter().map(|entry| *entry as u8).collect()
     }
 }
 
-/// A buffer to lend, between guards that show a write outside of it.
-#[derive(Clone, Debug, Eq, PartialEq)]
-pub struct Lent<T> {
-    entries: Vec<T>,
-}
-
-const GUARDS: usize = 16;
-
-impl<T: Copy + Into<u16>> Lent<T> {
-    pub fn new(guard: T, entries: &[T]) -> Self {
-        Self { entries: [&[guard; GUARDS], entries, &[guard; GUARDS]].concat() }
-    }
-
-    pub fn entries(&mut self) -> &mut [T] {
-        let end = self.entries.len() - GUARDS;
-        &mut self.entries[GUARDS..end]
-    }
-
-    pub fn first_guard_after(&mut self) -> &mut T {
-        let end = self.entries.len() - GUARDS;
-        &mut self.entries[end]
-    }
-
-    pub fn returned(self) -> Lent<u16> {
-        Lent { entries: self.entries.into_iter().map(Into::into).collect() }
-    }
+/// The answer of an inner function, which the editor's call over it is to give, too.
+pub fn same([inner, editors]: [Answer; 2]) -> Answer {
+    assert_eq!(inner, editors, "the inner function's answer, and the editor's call's");
+    inner
 }
 
 /// A call of a ported function, with everything that it takes beside the case's profile and table.

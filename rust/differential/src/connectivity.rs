@@ -78,7 +78,7 @@ fn queries(case: &Case) -> Vec<PortQuery> {
     if refusals::check(&case.profile, &case.table).is_err() {
         return Vec::new();
     }
-    let rows = table::decode(&case.table);
+    let rows = table::rows(&case.table);
     let mut queries = Vec::new();
     for at in around(&mut Random::new(case.seed), &rows, MOST_ROWS_AROUND) {
         for port in 0..PORTS.len() {

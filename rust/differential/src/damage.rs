@@ -1,8 +1,9 @@
 //! Damaged copies of accepted cases. What a copy is refused for, if at all, is for document 01 to say.
 
+use redstone::{FARTHEST, Kind, MOST_ROWS, ROW_BYTES, Row};
+
 use crate::generate::Case;
 use crate::random::Random;
-use crate::table::{self, FARTHEST, MOST_ROWS, ROW_BYTES, Row, kind};
 
 type Damage = (&'static str, fn(&mut Random, &mut Case));
 
@@ -124,8 +125,7 @@ fn row_left_out(random: &mut Random, case: &mut Case) {
 
 fn many_rows(random: &mut Random, case: &mut Case) {
     let rows = random.pick(&[MOST_ROWS - 1, MOST_ROWS, MOST_ROWS + 1, 2 * MOST_ROWS]);
-    let row = |x: usize| Row::new([x as i32, 0, 0], kind::SOLID);
-    case.table = table::encode(&(0..rows).map(row).collect::<Vec<_>>());
+    case.table = redstone::table((0..rows).map(|x| Row::new(Kind::Solid, [x as i32, 0, 0])));
 }
 
 fn profile_length(random: &mut Random, case: &mut Case) {

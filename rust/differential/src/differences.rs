@@ -8,9 +8,10 @@ mod named;
 mod original;
 mod proved;
 mod risks;
-mod words;
 
 use std::fmt::{self, Display, Formatter};
+
+use redstone_text::Line;
 
 pub use answers::check;
 pub use document::{Example, examples};
@@ -24,11 +25,32 @@ pub use risks::check_risks;
 #[derive(Debug)]
 pub struct Fault {
     pub line: usize,
+    pub column: Option<usize>,
     pub what: String,
+}
+
+impl Fault {
+    fn new(line: usize, what: impl Into<String>) -> Self {
+        Self { line, column: None, what: what.into() }
+    }
+
+    fn at(line: Line, what: impl Into<String>) -> Self {
+        Self::new(line.number, what)
+    }
+}
+
+impl From<redstone_text::Error> for Fault {
+    fn from(error: redstone_text::Error) -> Self {
+        Self { column: Some(error.column()), ..Self::new(error.line(), error.message()) }
+    }
 }
 
 impl Display for Fault {
     fn fmt(&self, f: &mut Formatter<'_>) -> fmt::Result {
-        write!(f, "line {}: {}", self.line, self.what)
+        write!(f, "line {}", self.line)?;
+        if let Some(column) = self.column {
+            write!(f, ", column {column}")?;
+        }
+        write!(f, ": {}", self.what)
     }
 }

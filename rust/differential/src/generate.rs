@@ -3,8 +3,13 @@
 use std::collections::BTreeMap;
 use std::fmt::{self, Display, Formatter};
 
+use redstone::{Arm, FARTHEST, Facing, Kind, ROW_BYTES, Row, Shape};
+use redstone_text::row_text;
+
 use crate::random::Random;
-use crate::table::{self, FARTHEST, HORIZONTAL, Position, ROW_BYTES, Row, kind, moved};
+use crate::table::{HORIZONTAL, Position, moved};
+
+pub use redstone::BENCH_PROFILE;
 
 /// What both sides are asked about.
 #[derive(Clone, Debug)]
@@ -16,6 +21,18 @@ pub struct Case {
 }
 
 impl Case {
+    /// A case that no seed gives, of rows in any order.
+    pub fn new(sort: &'static str, profile: [u8; 13], rows: impl IntoIterator<Item = Row>) -> Self {
+        Self { seed: 0, sort, profile: profile.to_vec(), table: redstone::table(rows) }
+    }
+
+    /// Tests 3 and 4 of the book: a redstone block and so many dust in a line, each on a solid block.
+    pub fn line(sort: &'static str, dust: i32) -> Self {
+        let column = |x| [Row::new(Kind::Solid, [x, 0, 0]), Row::new(Kind::RedstoneWire, [x, 1, 0])];
+        let source = Row::new(Kind::RedstoneBlock, [0, 1, 0]);
+        Self::new(sort, BENCH_PROFILE, (1..=dust).flat_map(column).chain([source]))
+    }
+
     /// The rows that the table has whole.
     pub fn rows(&self) -> usize {
         self.table.len() / ROW_BYTES
@@ -26,8 +43,9 @@ impl Display for Case {
     fn fmt(&self, f: &mut Formatter<'_>) -> fmt::Result {
         writeln!(f, "seed {} ({})", self.seed, self.sort)?;
         writeln!(f, "profile {}", hex(&self.profile))?;
-        for row in self.table.chunks(ROW_BYTES) {
-            writeln!(f, "row     {}", hex(row))?;
+        for bytes in self.table.chunks(ROW_BYTES) {
+            let text = Row::try_from(bytes).map_or(String::new(), |row| row_text(&row));
+            writeln!(f, "row     {} {text}", hex(bytes))?;
         }
         Ok(())
     }
@@ -40,8 +58,6 @@ fn hex(bytes: &[u8]) -> String {
 const BELOW: [i8; 3] = [0, -1, 0];
 const ABOVE: Position = [0, 1, 0];
 const UNDER: Position = [0, -1, 0];
-
-pub const BENCH_PROFILE: [u8; 13] = [0, 31, 1, 0, 0, 0, 0, 0, 0, 0, 31, 1, 0];
 
 type Sort = (&'static str, fn(&mut Random) -> Vec<Row>);
 
@@ -62,7 +78,8 @@ const SORTS: [(usize, Sort); 9] = [
 pub fn case(seed: u64) -> Case {
     let mut random = Random::new(seed);
     let (sort, make) = random.weighted(&SORTS);
-    Case { seed, sort, table: table::encode(&make(&mut random)), profile: profile(&mut random).to_vec() }
+    let rows = make(&mut random);
+    Case { seed, ..Case::new(sort, profile(&mut random), rows) }
 }
 
 fn profile(random: &mut Random) -> [u8; 13] {
@@ -82,8 +99,8 @@ struct Plan(BTreeMap<Position, Row>);
 
 impl Plan {
     fn put(&mut self, row: Row) {
-        if row.position.iter().all(|at| (-FARTHEST..=FARTHEST).contains(at)) {
-            self.0.insert(row.position, row);
+        if row.position().iter().all(|at| (-FARTHEST..=FARTHEST).contains(at)) {
+            self.0.insert(row.position(), row);
         }
     }
 
@@ -105,21 +122,24 @@ fn origin(random: &mut Random, room: i32) -> Position {
 /// A row of any kind with any fields.
 fn any_row(random: &mut Random, position: Position) -> Row {
     let kind = match random.below(10) {
-        0..4 => kind::DUST,
-        4..6 => kind::SOLID,
-        _ => 1 + random.byte_below(12),
+        0..4 => Kind::RedstoneWire,
+        4..6 => Kind::Solid,
+        _ => random.pick(Kind::ALL),
     };
-    Row {
-        facing: random.pick(&[0, 1, 1, 2, 2, 3, 3, 4, 4, 5, 6]),
-        powered: random.byte_below(3),
-        power_level: random.sometimes(35, any_level),
-        delay: random.sometimes(35, any_delay),
-        support_offset: random.sometimes(65, any_offset),
-        arms: random.sometimes(20, any_arms),
-        shape: any_shape(random),
-        subtract: random.percent(30),
-        ..Row::new(position, kind)
-    }
+    Row::new(kind, position)
+        .with_facing(any_facing(random))
+        .with_powered(random.pick(&[None, Some(false), Some(true)]))
+        .with_power_level(random.sometimes(35, any_level))
+        .with_delay(random.sometimes(35, any_delay))
+        .with_support(random.sometimes(65, any_step))
+        .with_arms(random.sometimes(20, any_arms))
+        .with_shape(any_shape(random))
+        .with_subtract(random.percent(30))
+}
+
+/// Twice as often a horizontal one as any other, or as none.
+fn any_facing(random: &mut Random) -> Option<Facing> {
+    Facing::try_from(random.pick(&[0, 1, 1, 2, 2, 3, 3, 4, 4, 5, 6])).ok()
 }
 
 fn any_level(random: &mut Random) -> u8 {
@@ -131,16 +151,16 @@ fn any_delay(random: &mut Random) -> u8 {
     random.pick(&[0, 1, 2, 3, 4, 5, 9, 255])
 }
 
-fn any_offset(random: &mut Random) -> [i8; 3] {
+fn any_step(random: &mut Random) -> [i8; 3] {
     if random.percent(60) { BELOW } else { [(); 3].map(|()| random.pick(&[-1, 0, 1])) }
 }
 
-fn any_arms(random: &mut Random) -> [u8; 4] {
-    [(); 4].map(|()| random.byte_below(4))
+fn any_arms(random: &mut Random) -> [Option<Arm>; 4] {
+    [(); 4].map(|()| random.pick(&[None, Some(Arm::None), Some(Arm::Side), Some(Arm::Up)]))
 }
 
-fn any_shape(random: &mut Random) -> u8 {
-    if random.percent(65) { 0 } else { random.byte_below(7) }
+fn any_shape(random: &mut Random) -> Shape {
+    if random.percent(65) { Shape::Plain } else { random.pick(Shape::ALL) }
 }
 
 fn filled_box(random: &mut Random, extent: Position, share: usize) -> Vec<Row> {
@@ -193,41 +213,40 @@ fn sparse(random: &mut Random) -> Vec<Row> {
 
 /// A block that dust may lie on.
 fn floor(random: &mut Random, position: Position) -> Row {
-    let kind = random.pick(&[kind::SOLID, kind::SOLID, kind::SOLID, kind::TRANSPARENT, kind::LAMP]);
-    Row { shape: any_shape(random), ..Row::new(position, kind) }
+    let kind = random.pick(&[Kind::Solid, Kind::Solid, Kind::Solid, Kind::Transparent, Kind::RedstoneLamp]);
+    Row::new(kind, position).with_shape(any_shape(random))
 }
 
 fn dust(random: &mut Random, position: Position) -> Row {
-    Row { support_offset: Some(BELOW), arms: random.sometimes(8, any_arms), ..Row::new(position, kind::DUST) }
+    let arms = random.sometimes(8, any_arms);
+    Row::new(Kind::RedstoneWire, position).with_support(BELOW).with_arms(arms)
 }
 
 /// A block that gives power, or may.
 fn source(random: &mut Random, position: Position) -> Row {
     let kind = random.pick(&[
-        kind::REDSTONE_BLOCK,
-        kind::LEVER,
-        kind::BUTTON,
-        kind::PLATE,
-        kind::TORCH,
-        kind::REPEATER,
-        kind::COMPARATOR,
+        Kind::RedstoneBlock,
+        Kind::Lever,
+        Kind::Button,
+        Kind::PressurePlate,
+        Kind::RedstoneTorch,
+        Kind::Repeater,
+        Kind::Comparator,
     ]);
-    Row {
-        facing: 1 + random.byte_below(4),
-        powered: random.pick(&[0, 1, 2, 2, 2]),
-        power_level: random.sometimes(50, any_level),
-        delay: random.sometimes(50, any_delay),
-        support_offset: Some(any_offset(random)),
-        subtract: random.percent(30),
-        ..Row::new(position, kind)
-    }
+    Row::new(kind, position)
+        .with_facing(random.pick(&Facing::ALL[..4]))
+        .with_powered(random.pick(&[None, Some(false), Some(true), Some(true), Some(true)]))
+        .with_power_level(random.sometimes(50, any_level))
+        .with_delay(random.sometimes(50, any_delay))
+        .with_support(any_step(random))
+        .with_subtract(random.percent(30))
 }
 
 fn device(random: &mut Random, position: Position) -> Row {
     match random.below(10) {
         0..4 => source(random, position),
         4..7 => dust(random, position),
-        7 => Row::new(position, kind::LAMP),
+        7 => Row::new(Kind::RedstoneLamp, position),
         8 => floor(random, position),
         _ => any_row(random, position),
     }
@@ -293,20 +312,16 @@ fn clock(random: &mut Random) -> Vec<Row> {
         let beside = [(); 3].map(|()| random.within(-1, 2));
         plan.put(device(random, moved(at, beside)));
     }
-    let repeater = Row {
-        facing: 2,
-        delay: random.sometimes(80, any_delay),
-        ..Row::new(moved(at, [1, 0, 0]), kind::REPEATER)
-    };
-    let torch = Row { support_offset: Some([0, 0, 1]), ..Row::new(at, kind::TORCH) };
-    let back = Row { arms: Some([0, 2, 0, 2]), ..Row::new(moved(at, [1, 0, 1]), kind::DUST) };
+    let place = |kind, step| Row::new(kind, moved(at, step));
+    let (east, west) = (Some(Arm::Side), Some(Arm::Side));
+    let delay = random.sometimes(80, any_delay);
     for row in [
-        torch,
-        repeater,
-        Row::new(moved(at, [2, 0, 0]), kind::DUST),
-        Row::new(moved(at, [2, 0, 1]), kind::DUST),
-        back,
-        Row::new(moved(at, [0, 0, 1]), random.pick(&[kind::SOLID, kind::LAMP])),
+        place(Kind::RedstoneTorch, [0, 0, 0]).with_support([0, 0, 1]),
+        place(Kind::Repeater, [1, 0, 0]).with_facing(Facing::East).with_delay(delay),
+        place(Kind::RedstoneWire, [2, 0, 0]),
+        place(Kind::RedstoneWire, [2, 0, 1]),
+        place(Kind::RedstoneWire, [1, 0, 1]).with_arms([None, east, None, west]),
+        place(random.pick(&[Kind::Solid, Kind::RedstoneLamp]), [0, 0, 1]),
     ] {
         plan.put(row);
     }

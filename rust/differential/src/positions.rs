@@ -1,11 +1,13 @@
 //! Positions to ask about.
 
+use redstone::Row;
+
 use crate::random::Random;
-use crate::table::{Position, Row, moved};
+use crate::table::{Position, moved};
 
 /// The positions of at most `most` rows, taken at random, and beside each a position at most two cells away.
 pub fn around(random: &mut Random, rows: &[Row], most: usize) -> Vec<Position> {
-    let mut positions: Vec<_> = rows.iter().map(|row| row.position).collect();
+    let mut positions: Vec<_> = rows.iter().map(Row::position).collect();
     random.keep(&mut positions, most);
     let both = |at| [at, beside(random, at)];
     positions.into_iter().flat_map(both).collect()

@@ -1,6 +1,7 @@
 //! The proved functions, called through the C interface of the static library `probe`.
 
 use crate::generate::Case;
+use crate::refusals::Refusal;
 
 /// Declares a C function and a safe function of the same name over it. A slice goes over as a pointer and a length.
 macro_rules! c_functions {
@@ -47,26 +48,19 @@ c_functions! {
     fn probe_offset(x: i32, y: i32, z: i32, dx: i32, dy: i32, dz: i32, axis: u32) -> i32;
     fn probe_opposite(facing: u32) -> u32;
     fn probe_horizontal_offset(facing: u32, axis: u32) -> i32;
-}
-
-#[cfg(feature = "connectivity")]
-c_functions! {
     fn probe_port(table: &[u8], x: i32, y: i32, z: i32, which: u32) -> u32;
     fn probe_port_coordinate(table: &[u8], x: i32, y: i32, z: i32, which: u32, axis: u32) -> i32;
-}
-
-#[cfg(feature = "wire")]
-c_functions! {
     fn probe_component_connects(table: &[u8], x: i32, y: i32, z: i32, facing: u32) -> u32;
     fn probe_infer(profile: &[u8], table: &[u8], x: i32, y: i32, z: i32, facing: u32) -> u32;
     fn probe_resolved(profile: &[u8], table: &[u8], x: i32, y: i32, z: i32, facing: u32) -> u32;
     fn probe_transfer(profile: &[u8], table: &[u8], x: i32, y: i32, z: i32, x2: i32, y2: i32, z2: i32) -> u32;
     fn probe_redraw(profile: &[u8], table: &mut [u8]) -> u32;
+    fn redstone_switch(profile: &[u8], table: &mut [u8], state: &[u8], x: i32, y: i32, z: i32, powered: u32, signal: &mut [u8], weak: &mut [u8], strong: &mut [u8]) -> u32;
 }
 
-#[cfg(feature = "redstone")]
-c_functions! {
-    fn redstone_switch(profile: &[u8], table: &mut [u8], state: &[u8], x: i32, y: i32, z: i32, powered: u32, signal: &mut [u8], weak: &mut [u8], strong: &mut [u8]) -> u32;
+/// The number with which the C call under a call of the editor's crate answered.
+pub fn answered(answer: Result<u32, redstone::Refusal>) -> u32 {
+    answer.unwrap_or_else(|refusal| Refusal::from(refusal).code())
 }
 
 /// The proved side of a comparison.

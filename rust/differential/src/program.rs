@@ -7,13 +7,13 @@ use std::process::{Command, Stdio};
 use std::{env, thread};
 
 use original::electrical::PoweredBlockState;
+use redstone::Row;
 
 use crate::generate::Case;
 use crate::oracle::{Oracle, pos};
 use crate::redstone::fresh_devices;
 use crate::refusals::Refusal;
 use crate::report;
-use crate::table::Row;
 
 const PROFILE_BYTES: usize = 13;
 pub const MOST_BYTES: usize = 32_781;
@@ -68,9 +68,9 @@ pub fn expected(input: &[u8]) -> String {
 fn settled(oracle: &Oracle) -> String {
     let settled = oracle.settle(&fresh_devices(oracle), 128).expect("128 rounds are enough");
     let numbers = |row: &Row| {
-        let at = pos(row.position);
+        let at = pos(row.position());
         let PoweredBlockState { weak, strong } = settled.power(at);
-        (row.position, [settled.signal(at), weak, strong])
+        (row.position(), [settled.signal(at), weak, strong])
     };
     let rows: Vec<_> = oracle.rows.iter().map(numbers).collect();
     report::settled(settled.iterations as u32, &rows)

@@ -6,24 +6,26 @@ mod queries;
 mod runs;
 mod state;
 
+use original::Profiled;
 use original::electrical::{InstantaneousElectricalState, PoweredBlockState, solve_instantaneous};
 use original::sim::{RedstoneTickSimulator, TickState};
 use original::world::World;
-use redstone::{Columns, Rounds};
+use redstone::{Columns, ROW_BYTES, Rounds, STATE_BYTES};
 
-use crate::compare::{Answer, Answers, Compared, Lent, Query, Tally, compare};
+use crate::compare::{Answer, Answers, Compared, Query, Tally, compare};
 use crate::generate::Case;
+use crate::lent::Lent;
 use crate::oracle::{Oracle, pos};
-use crate::probe::Probe;
-use crate::refusals::{self, Refusal, STATE_BYTES};
-use crate::table::{Position, ROW_BYTES};
+use crate::probe::{Probe, answered};
+use crate::refusals::{self, Refusal};
+use crate::table::Position;
 
 pub use alterations::ALTERATIONS;
 pub use edges::{edges, single_bytes};
 pub use queries::{any_devices, fresh_devices, queries, settle_at_every_limit};
 pub use runs::{OriginalRun, ProvedRun, Step, steps};
-use state::unpack;
-pub use state::{device_outputs, pack};
+pub use state::device_outputs;
+use state::{pack, unpack};
 
 pub fn compare_case(case: &Case, actual: &dyn Answers<Call>, tally: &mut Tally) -> Compared {
     let oracle = Oracle::new(case);
@@ -71,26 +73,23 @@ pub const SIGNAL: usize = 3;
 pub const WEAK: usize = 4;
 pub const STRONG: usize = 5;
 
-const GUARD: u8 = 0x5a;
-/// Every byte of a buffer that a call is to fill, before it.
-const UNTOUCHED: u8 = 0xc3;
-
 /// What a call is lent.
 struct Buffers([Lent<u8>; 6]);
 
 impl Buffers {
     fn new(buffers: [&[u8]; 6]) -> Self {
-        Self(buffers.map(|bytes| Lent::new(GUARD, bytes)))
+        Self(buffers.map(Lent::new))
     }
 
     fn for_call(case: &Case, call: &Call) -> Self {
         let state = match &call.input {
-            Input::Fresh { state_bytes } => &vec![UNTOUCHED; *state_bytes],
-            Input::Settle { devices, .. } => devices,
-            Input::Tick { state, .. } | Input::Switch { state, .. } => state,
+            Input::Fresh { state_bytes } => Lent::untouched(*state_bytes),
+            Input::Settle { devices: state, .. }
+            | Input::Tick { state, .. }
+            | Input::Switch { state, .. } => Lent::new(state),
         };
-        let [signal, weak, strong] = call.columns.map(|entries| vec![UNTOUCHED; entries]);
-        Self::new([&case.profile, &case.table, state, &signal, &weak, &strong])
+        let [signal, weak, strong] = call.columns.map(Lent::untouched);
+        Self([Lent::new(&case.profile), Lent::new(&case.table), state, signal, weak, strong])
     }
 
     fn entries(&mut self) -> [&mut [u8]; 6] {
@@ -107,7 +106,7 @@ impl Answers<Call> for Probe<'_> {
         let mut buffers = Buffers::for_call(self.0, call);
         let [profile, table, state, signal, weak, strong] = buffers.entries();
         let columns = Columns { signal, weak, strong };
-        let answered = match call.input {
+        let rounds = match call.input {
             Input::Fresh { .. } => ::redstone::fresh(profile, table, state, columns),
             Input::Settle { limit, .. } => ::redstone::settle(profile, table, state, limit, columns),
             Input::Tick { tick, ticks, .. } => ::redstone::tick(profile, table, state, tick, ticks, columns),
@@ -115,15 +114,7 @@ impl Answers<Call> for Probe<'_> {
                 ::redstone::switch(profile, table, state, at, powered, columns)
             }
         };
-        buffers.answer(number(answered))
-    }
-}
-
-/// The number that the C call answered with.
-fn number(answered: Result<Rounds, ::redstone::Refusal>) -> u32 {
-    match answered {
-        Ok(rounds) => rounds.get(),
-        Err(::redstone::Refusal { number, row, .. }) => Refusal { number, row }.code(),
+        buffers.answer(answered(rounds.map(Rounds::get)))
     }
 }
 
@@ -176,21 +167,31 @@ impl Oracle<'_> {
     }
 
     fn fresh(&self, state: &mut [u8]) -> InstantaneousElectricalState {
-        let simulator = RedstoneTickSimulator::new(self.world().clone()).expect(SETTLES);
-        state.copy_from_slice(&pack(&self.rows, &simulator.parts()));
-        settled(simulator.snapshot())
+        let simulator = self.started();
+        state.copy_from_slice(&self.packed(&simulator));
+        settled(simulator.get().snapshot())
     }
 
-    /// The original at a packed state.
-    pub fn simulator(&self, state: &[u8]) -> RedstoneTickSimulator {
+    /// The original's simulator, at its start.
+    pub fn started(&self) -> Profiled<RedstoneTickSimulator> {
+        self.made(|world| RedstoneTickSimulator::new(world).expect(SETTLES))
+    }
+
+    /// The original's simulator, at a packed state.
+    pub fn simulator(&self, state: &[u8]) -> Profiled<RedstoneTickSimulator> {
         let parts = unpack(&self.rows, state);
-        RedstoneTickSimulator::from_parts(self.world().clone(), parts).expect(SETTLES)
+        self.made(|world| RedstoneTickSimulator::from_parts(world, parts).expect(SETTLES))
+    }
+
+    /// The state that a simulator stands at.
+    pub fn packed(&self, simulator: &Profiled<RedstoneTickSimulator>) -> Vec<u8> {
+        pack(&self.rows, &simulator.get().parts())
     }
 
     fn tick(&self, state: &mut [u8], ticks: u32) -> InstantaneousElectricalState {
         let mut simulator = self.simulator(state);
-        let last = simulator.settle_ticks(ticks as usize).expect(SETTLES);
-        state.copy_from_slice(&pack(&self.rows, &simulator.parts()));
+        let last = simulator.get_mut().settle_ticks(ticks as usize).expect(SETTLES);
+        state.copy_from_slice(&self.packed(&simulator));
         settled(last)
     }
 
@@ -202,13 +203,13 @@ impl Oracle<'_> {
         table: &mut [u8],
     ) -> InstantaneousElectricalState {
         let mut simulator = self.simulator(state);
-        let last = simulator.set_powered(pos(at), powered).expect(SETTLES);
-        write_powered(table, simulator.world());
+        let last = simulator.get_mut().set_powered(pos(at), powered).expect(SETTLES);
+        write_powered(table, simulator.get().world());
         settled(last)
     }
 
     fn write_columns(&self, settled: &InstantaneousElectricalState, [signal, weak, strong]: [&mut [u8]; 3]) {
-        for (row, at) in self.rows.iter().map(|row| pos(row.position)).enumerate() {
+        for (row, at) in self.rows.iter().map(|row| pos(row.position())).enumerate() {
             signal[row] = settled.signal(at);
             PoweredBlockState { weak: weak[row], strong: strong[row] } = settled.power(at);
         }

@@ -1,8 +1,13 @@
 //! The refusals, read from document 01 a second time and apart from the proved code.
 
-use crate::table::{FARTHEST, MOST_ROWS, Position, ROW_BYTES, kind};
+use redstone::Kind;
 
-pub const STATE_BYTES: usize = 16;
+use crate::table::Position;
+
+const ROW_BYTES: usize = 32;
+const STATE_BYTES: usize = 16;
+const MOST_ROWS: usize = 1024;
+const FARTHEST: i32 = 1_000_000;
 
 /// What a refusal's number is multiplied by; a lower answer is no refusal.
 pub const REFUSED: u32 = 65_536;
@@ -16,6 +21,12 @@ pub struct Refusal {
 impl Refusal {
     pub fn code(self) -> u32 {
         REFUSED * self.number + self.row as u32
+    }
+}
+
+impl From<redstone::Refusal> for Refusal {
+    fn from(redstone::Refusal { number, row, .. }: redstone::Refusal) -> Self {
+        Self { number, row }
     }
 }
 
@@ -103,25 +114,24 @@ fn good_row(row: &[u8]) -> bool {
 }
 
 fn highest_device_byte(kind: u8) -> u8 {
-    match kind {
-        kind::REPEATER | kind::TORCH => 1,
-        kind::COMPARATOR => 255,
+    match Kind::try_from(kind) {
+        Ok(Kind::Repeater | Kind::RedstoneTorch) => 1,
+        Ok(Kind::Comparator) => 255,
         _ => 0,
     }
 }
 
 fn good_state(row: &[u8], state: &[u8]) -> bool {
-    let only = |kind: u8, bytes: std::ops::Range<usize>| {
-        row[12] == kind || state[bytes].iter().all(|byte| *byte == 0)
-    };
+    let is = |kind: Kind| row[12] == kind.code();
+    let only = |kind, bytes: std::ops::Range<usize>| is(kind) || state[bytes].iter().all(|byte| *byte == 0);
     let toggles = u32::from_le_bytes([state[4], state[5], state[6], state[7]]);
     state[0] <= highest_device_byte(row[12])
-        && only(kind::REPEATER, 1..2)
-        && (row[12] != kind::REPEATER || good_queue(row, state))
-        && only(kind::LAMP, 2..4)
+        && only(Kind::Repeater, 1..2)
+        && (!is(Kind::Repeater) || good_queue(row, state))
+        && only(Kind::RedstoneLamp, 2..4)
         && state[2] <= 1
         && state[3] <= 2 * state[2]
-        && only(kind::TORCH, 4..9)
+        && only(Kind::RedstoneTorch, 4..9)
         && toggles < 1 << 31
         && state[8] <= 1
         && (state[8] == 1 || toggles.count_ones() < 8)

@@ -10,15 +10,17 @@ use original::wire::{
     update_wire_shapes,
 };
 use original::world::{Facing, WireConnection, World};
+use redstone::{Arm, Row};
 
-use crate::compare::{Answer, Answers, Compared, Lent, Query, Tally, compare};
+use crate::compare::{Answer, Answers, Compared, Query, Tally, compare, same};
 use crate::generate::Case;
-use crate::oracle::{Oracle, connection_number, facing, pos};
+use crate::lent::Lent;
+use crate::oracle::{Oracle, arm, connection_number, facing, pos};
 use crate::probe::{
-    Probe, probe_component_connects, probe_infer, probe_redraw, probe_resolved, probe_transfer,
+    Probe, answered, probe_component_connects, probe_infer, probe_redraw, probe_resolved, probe_transfer,
 };
 use crate::refusals::Refusal;
-use crate::table::{self, Position, Row};
+use crate::table::Position;
 
 pub use alterations::ALTERATIONS;
 pub use queries::queries;
@@ -48,10 +50,6 @@ impl Query for WireQuery {
     }
 }
 
-fn lent_table(table: &[u8]) -> Lent<u8> {
-    Lent::new(0xa5, table)
-}
-
 impl Answers<WireQuery> for Probe<'_> {
     fn answer(&self, query: &WireQuery) -> Answer {
         let Case { profile, table, .. } = self.0;
@@ -63,12 +61,19 @@ impl Answers<WireQuery> for Probe<'_> {
                 probe_transfer(profile, table, x, y, z, x2, y2, z2).into()
             }
             WireQuery::Redraw => {
-                let mut table = lent_table(table);
-                let number = probe_redraw(profile, table.entries());
-                Answer::with_buffers(number, [table.returned()])
+                let redraw = |call: fn(&[u8], &mut [u8]) -> u32| {
+                    let mut table = Lent::new(table);
+                    let number = call(profile, table.entries());
+                    Answer::with_buffers(number, [table.returned()])
+                };
+                same([probe_redraw, editors_redraw].map(redraw))
             }
         }
     }
+}
+
+fn editors_redraw(profile: &[u8], table: &mut [u8]) -> u32 {
+    answered(redstone::redraw(profile, table).map(|()| 0))
 }
 
 impl Answers<WireQuery> for Oracle<'_> {
@@ -87,7 +92,7 @@ impl Answers<WireQuery> for Oracle<'_> {
                 transfer_number(dust_transfer(self.world(), pos(source), pos(sink))).into()
             }
             WireQuery::Redraw => {
-                let mut table = lent_table(&self.case.table);
+                let mut table = Lent::new(&self.case.table);
                 let number = self.redraw(table.entries()).unwrap_or_else(Refusal::code);
                 Answer::with_buffers(number, [table.returned()])
             }
@@ -100,20 +105,19 @@ impl Oracle<'_> {
         self.refusal?;
         let mut world = self.world().clone();
         update_wire_shapes(&mut world);
-        let redrawn: Vec<_> = self.rows.iter().map(|row| redrawn(&world, row)).collect();
-        table.copy_from_slice(&table::encode(&redrawn));
+        table.copy_from_slice(&redstone::table(self.rows.iter().map(|row| redrawn(&world, row))));
         Ok(0)
     }
 }
 
 /// A row with the arms that its block has now.
 fn redrawn(world: &World, row: &Row) -> Row {
-    let block = world.get(pos(row.position)).expect("the row's own block");
-    Row { arms: block.wire_connections.as_ref().map(arms), ..row.clone() }
+    let block = world.get(pos(row.position())).expect("the row's own block");
+    row.with_arms(block.wire_connections.as_ref().map(arms))
 }
 
-fn arms(connections: &BTreeMap<Facing, WireConnection>) -> [u8; 4] {
-    HORIZONTAL.map(|facing| connections.get(&facing).map_or(0, |arm| connection_number(*arm) as u8))
+fn arms(connections: &BTreeMap<Facing, WireConnection>) -> [Option<Arm>; 4] {
+    HORIZONTAL.map(|facing| connections.get(&facing).map(|connection| arm(*connection)))
 }
 
 fn horizontal(number: u32) -> Facing {

@@ -5,16 +5,18 @@ mod queries;
 
 use original::blocks::behavior_profile;
 use original::world::{Block, BlockKind, BlockRedstoneTraits, Facing, OccupiedShape};
+use redstone::Row;
 
-use crate::compare::{Answer, Answers, Compared, Lent, Query, Tally, compare};
+use crate::compare::{Answer, Answers, Compared, Query, Tally, compare, same};
 use crate::generate::Case;
+use crate::lent::Lent;
 use crate::oracle::{KINDS, Oracle, connection_number, facing, facing_number, pos};
 use crate::probe::{
-    Probe, probe_find, probe_horizontal_offset, probe_kind_at, probe_offset, probe_opposite,
+    Probe, answered, probe_find, probe_horizontal_offset, probe_kind_at, probe_offset, probe_opposite,
     probe_properties, probe_shape_of_name, probe_support_issues, probe_traits,
 };
 use crate::refusals::{self, Refusal};
-use crate::table::{Position, Row};
+use crate::table::Position;
 
 pub use alterations::ALTERATIONS;
 pub use queries::queries;
@@ -72,11 +74,6 @@ impl Query for WorldQuery {
 
 const NOTHING_THERE: u64 = u64::MAX;
 const NO_OFFSET: i32 = 2;
-const UNTOUCHED: u16 = 0xa5c3;
-
-fn support_column(entries: usize) -> Lent<u16> {
-    Lent::new(!UNTOUCHED, &vec![UNTOUCHED; entries])
-}
 
 impl Answers<WorldQuery> for Probe<'_> {
     fn answer(&self, query: &WorldQuery) -> Answer {
@@ -90,9 +87,12 @@ impl Answers<WorldQuery> for Probe<'_> {
                 probe_shape_of_name(name, slab_type, half).into()
             }
             &WorldQuery::SupportIssues { entries } => {
-                let mut column = support_column(entries);
-                let number = probe_support_issues(profile, table, column.entries());
-                Answer::with_buffers(number, [column.returned()])
+                let list = |call: fn(&[u8], &[u8], &mut [u16]) -> u32| {
+                    let mut column = Lent::untouched(entries);
+                    let number = call(profile, table, column.entries());
+                    Answer::with_buffers(number, [column.returned()])
+                };
+                same([probe_support_issues, editors_supports].map(list))
             }
             &WorldQuery::Offset { from: [x, y, z], by: [dx, dy, dz], axis } => {
                 probe_offset(x, y, z, dx, dy, dz, axis as u32).into()
@@ -105,6 +105,10 @@ impl Answers<WorldQuery> for Probe<'_> {
     }
 }
 
+fn editors_supports(profile: &[u8], table: &[u8], rows: &mut [u16]) -> u32 {
+    answered(redstone::supports(profile, table, rows).map(|count| count as u32))
+}
+
 impl Answers<WorldQuery> for Oracle<'_> {
     fn answer(&self, query: &WorldQuery) -> Answer {
         match query {
@@ -114,7 +118,7 @@ impl Answers<WorldQuery> for Oracle<'_> {
             &WorldQuery::Traits(row) => self.traits(&self.rows[row]).into(),
             WorldQuery::ShapeOfName(name) => shape_of_name(name).into(),
             &WorldQuery::SupportIssues { entries } => {
-                let mut column = support_column(entries);
+                let mut column = Lent::untouched(entries);
                 let number = self.support_issues(column.entries());
                 Answer::with_buffers(number.unwrap_or_else(Refusal::code), [column.returned()])
             }
@@ -135,10 +139,11 @@ impl Oracle<'_> {
 
     /// A kind that the original has not is of no properties.
     fn properties(&self, kind: u32) -> u32 {
-        self.put_profile_in_force();
         let Some(kind) = KINDS.get(kind as usize) else {
             return 0;
         };
+        // To reach for the world is to put the profile in force.
+        self.world();
         let properties = behavior_profile(*kind).properties;
         sum_of_bits([
             properties.supports_components,
@@ -150,7 +155,7 @@ impl Oracle<'_> {
     }
 
     fn traits(&self, row: &Row) -> u32 {
-        let block = self.world().get(pos(row.position));
+        let block = self.world().get(pos(row.position()));
         let traits = block.expect("the row's own block").redstone_traits();
         let rise = traits.wire_rise_connection;
         assert_eq!(traits.permits_wire_rise_beside, rise.is_some(), "the port keeps one of these two traits");

@@ -13,7 +13,7 @@ mod compared {
     use differential::generate::{BENCH_PROFILE, Case};
     use differential::program::{MOST_BYTES, expected, find, written};
     use differential::suite::{good_cases, with_damaged};
-    use differential::table::{self, Row, kind};
+    use redstone::{Kind, Row};
 
     /// Asserts that the program writes for each input what document 01 says, and gives that back.
     fn assert_agrees(inputs: impl Iterator<Item = Vec<u8>>) -> Vec<String> {
@@ -40,8 +40,8 @@ mod compared {
 
     #[test]
     fn inputs_of_every_length_about_the_ends() {
-        let rows: Vec<_> = (0..1025).map(|x| Row::new([x, 0, 0], kind::SOLID)).collect();
-        let long = [&BENCH_PROFILE[..], &table::encode(&rows)].concat();
+        let rows = (0..1025).map(|x| Row::new(Kind::Solid, [x, 0, 0]));
+        let long = [&BENCH_PROFILE[..], &redstone::table(rows)].concat();
         let lengths = (0..=14).chain(43..=46).chain(76..=78).chain(MOST_BYTES - 33..=MOST_BYTES + 1);
         assert_agrees(lengths.chain([long.len()]).map(|length| long[..length].to_vec()));
         assert_agrees([32_814, 65_536, 65_549, 1_000_000].into_iter().map(|length| vec![0; length]));
@@ -50,14 +50,7 @@ mod compared {
     /// Test 3 of the book.
     #[test]
     fn the_line_of_the_book() {
-        let rows = [
-            Row::new([0, 1, 0], kind::REDSTONE_BLOCK),
-            Row::new([1, 0, 0], kind::SOLID),
-            Row::new([1, 1, 0], kind::DUST),
-            Row::new([2, 0, 0], kind::SOLID),
-            Row::new([2, 1, 0], kind::DUST),
-        ];
-        let outputs = assert_agrees([[&BENCH_PROFILE[..], &table::encode(&rows)].concat()].into_iter());
+        let outputs = assert_agrees([input(Case::line("test 3", 2))].into_iter());
         let lines = "blocks=5\nrounds=4\nrow=0,1,0,15,0,0\nrow=1,0,0,0,15,0\nrow=1,1,0,15,0,0\n\
                      row=2,0,0,0,14,0\nrow=2,1,0,14,0,0\n";
         assert_eq!(outputs, [lines]);

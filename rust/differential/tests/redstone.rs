@@ -10,18 +10,18 @@ fn the_original_was_not_found() {
 mod compared {
     use differential::compare::{Answer, Answers, Tally, compare, run};
     use differential::generate::{self, BENCH_PROFILE, Case};
-    use differential::oracle::Oracle;
+    use differential::oracle::{Oracle, world};
     use differential::probe::{Probe, redstone_switch};
     use differential::redstone::{
-        ALTERATIONS, Call, Input, OriginalRun, ProvedRun, SIGNAL, STATE, TABLE, compare_case, edges, pack,
+        ALTERATIONS, Call, Input, OriginalRun, ProvedRun, SIGNAL, STATE, Step, TABLE, compare_case, edges,
         settle_at_every_limit, single_bytes, steps,
     };
     use differential::suite::{
         assert_alterations_reported, assert_compared, compare_many, good_cases, setting,
     };
-    use differential::table::{self, Row, kind};
     use original::sim::{Parts, RedstoneTickSimulator};
     use original::world::World;
+    use redstone::{Kind, Row};
 
     /// So many calls are compared, or more where DIFF_CALLS says so; 1,000,000 take some minutes.
     const CALLS: u64 = 50_000;
@@ -54,6 +54,21 @@ mod compared {
             compare(steps(&oracle), &OriginalRun::new(&oracle), &ProvedRun::new(case, false), tally)
         });
         assert_compared("runs", compared);
+    }
+
+    /// Whatever was asked before, an answer is by the profile of the case that it is about.
+    #[test]
+    fn runs_by_turns_answer_by_their_own_profiles() {
+        let cases: Vec<_> = (0..40).map(generate::case).collect();
+        let oracles: Vec<_> = cases.iter().map(Oracle::new).collect();
+        let sides =
+            oracles.iter().map(|oracle| (OriginalRun::new(oracle), ProvedRun::new(oracle.case, false)));
+        let sides: Vec<_> = sides.collect();
+        for step in [Step::Fresh, Step::Ticks(1), Step::Ticks(3)] {
+            for ((original, proved), case) in sides.iter().zip(&cases) {
+                assert_eq!(original.answer(&step), proved.answer(&step), "{case}");
+            }
+        }
     }
 
     #[test]
@@ -95,19 +110,18 @@ mod compared {
     fn packed_states_lose_nothing() {
         for case in (0..500).map(generate::case) {
             let oracle = Oracle::new(&case);
-            let packed = |simulator: &RedstoneTickSimulator| pack(&oracle.rows, &simulator.parts());
-            let mut whole = RedstoneTickSimulator::new(oracle.world().clone()).unwrap();
+            let mut whole = oracle.started();
             for _ in 0..12 {
-                let mut stepped = oracle.simulator(&packed(&whole));
-                let settled = stepped.advance_tick().unwrap();
-                assert_eq!(settled.strengths, whole.advance_tick().unwrap().strengths, "{case}");
-                assert_eq!(packed(&stepped), packed(&whole), "{case}");
+                let mut stepped = oracle.simulator(&oracle.packed(&whole));
+                let settled = stepped.get_mut().advance_tick().unwrap();
+                assert_eq!(settled.strengths, whole.get_mut().advance_tick().unwrap().strengths, "{case}");
+                assert_eq!(oracle.packed(&stepped), oracle.packed(&whole), "{case}");
             }
         }
     }
 
-    fn bench_case(rows: &[Row]) -> Case {
-        Case { seed: 0, sort: "test book", profile: BENCH_PROFILE.to_vec(), table: table::encode(rows) }
+    fn bench_case(rows: impl IntoIterator<Item = Row>) -> Case {
+        Case::new("test book", BENCH_PROFILE, rows)
     }
 
     /// The answer that both sides give.
@@ -121,18 +135,19 @@ mod compared {
     /// The original counts ticks in 64 bits and goes on.
     #[test]
     fn a_tick_number_past_32_bits_is_refused() {
-        let case = bench_case(&[Row::new([0; 3], kind::LAMP)]);
+        let case = bench_case([Row::new(Kind::RedstoneLamp, [0; 3])]);
         let tick = |ticks| answer(&case, Input::Tick { state: vec![0; 16], tick: u32::MAX - 1, ticks });
         assert_eq!([0, 1, 2, u32::MAX].map(|ticks| tick(ticks).refusal()), [None, None, Some(9), Some(9)]);
         let parts = Parts { tick: u32::MAX.into(), ..Parts::default() };
-        let mut original = RedstoneTickSimulator::from_parts(World::new(), parts).unwrap();
-        assert_eq!(original.advance_tick().unwrap().tick, 1 << 32);
+        let simulator = |world: &World| RedstoneTickSimulator::from_parts(world.clone(), parts).unwrap();
+        let mut original = world(BENCH_PROFILE, &[]).map(simulator);
+        assert_eq!(original.get_mut().advance_tick().unwrap().tick, 1 << 32);
     }
 
     /// The editor's crate has only 0 and 1 for a switch.
     #[test]
     fn any_number_but_0_switches_on() {
-        let case = bench_case(&[Row::new([0, 0, 0], kind::LEVER)]);
+        let case = bench_case([Row::new(Kind::Lever, [0; 3])]);
         let state = vec![0; 16];
         for (number, powered) in
             [(0, false), (1, true), (2, true), (256, true), (65_536, true), (u32::MAX, true)]
@@ -150,7 +165,7 @@ mod compared {
                 &mut weak,
                 &mut strong,
             );
-            let mut switched = answer(&case, Input::Switch { state: state.clone(), at: [0; 3], powered });
+            let switched = answer(&case, Input::Switch { state: state.clone(), at: [0; 3], powered });
             assert_eq!((table, signal.to_vec()), (switched.bytes(TABLE), switched.bytes(SIGNAL)), "{number}");
         }
     }
@@ -158,14 +173,9 @@ mod compared {
     /// Test 4 of the book.
     #[test]
     fn fifteen_dust_settle_in_seventeen_rounds() {
-        let floor = (1..=15).map(|x| Row::new([x, 0, 0], kind::SOLID));
-        let dust = (1..=15).map(|x| Row::new([x, 1, 0], kind::DUST));
-        let mut rows: Vec<_> = floor.chain(dust).collect();
-        rows.push(Row::new([0, 1, 0], kind::REDSTONE_BLOCK));
-        rows.sort_by_key(|row| row.position);
-        let case = bench_case(&rows);
-        let settle = |limit| answer(&case, Input::Settle { devices: vec![0; rows.len()], limit });
-        let mut settled = settle(128);
+        let case = Case::line("test book", 15);
+        let settle = |limit| answer(&case, Input::Settle { devices: vec![0; case.rows()], limit });
+        let settled = settle(128);
         assert_eq!(settled.number, 17);
         assert_eq!(settled.bytes(SIGNAL).last(), Some(&1));
         assert_eq!(settle(17), settled);
@@ -175,13 +185,9 @@ mod compared {
     /// Test 10 of the book: the lever on the lamp is thrown after tick 4.
     #[test]
     fn a_lamp_first_dark_at_tick_5_is_out_at_tick_7() {
-        let lamp = Row::new([0, 0, 0], kind::LAMP);
-        let mut lever = Row::new([0, 1, 0], kind::LEVER);
-        lever.support_offset = Some([0, -1, 0]);
-        lever.powered = 2;
-        let on = bench_case(&[lamp.clone(), lever.clone()]);
-        lever.powered = 1;
-        let off = bench_case(&[lamp, lever]);
+        let lamp = Row::new(Kind::RedstoneLamp, [0, 0, 0]);
+        let lever = Row::new(Kind::Lever, [0, 1, 0]).with_support([0, -1, 0]);
+        let [on, off] = [true, false].map(|powered| bench_case([lamp, lever.with_powered(powered)]));
         let fresh = answer(&on, Input::Fresh { state_bytes: 32 }).bytes(STATE);
         let state = answer(&on, Input::Tick { state: fresh, tick: 0, ticks: 4 }).bytes(STATE);
         let lamp_after = |ticks| {

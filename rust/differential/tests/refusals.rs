@@ -4,7 +4,7 @@ use differential::checks::{ALTERATIONS, compare_case};
 use differential::generate::{self, BENCH_PROFILE, Case};
 use differential::probe::probe_check;
 use differential::suite::{assert_agrees, assert_alterations_reported, good_cases, with_damaged};
-use differential::table::{self, Row, kind};
+use redstone::{Kind, Row};
 
 #[test]
 fn refusals_agree_with_document_01() {
@@ -38,12 +38,12 @@ fn single_bytes(case: &Case) -> Vec<Case> {
 /// Test 11 of the book.
 #[test]
 fn the_farthest_coordinate_and_the_most_rows_pass() {
-    let check = |rows: &[Row]| probe_check(&BENCH_PROFILE, &table::encode(rows));
-    let line = |rows: i32| (0..rows).map(|x| Row::new([x, 0, 0], kind::SOLID)).collect::<Vec<_>>();
-    assert_eq!(check(&[Row::new([1_000_000, 0, 0], kind::SOLID)]), 0);
-    assert_eq!(check(&[Row::new([1_000_001, 0, 0], kind::SOLID)]), 4 * 65_536);
-    assert_eq!(check(&line(1_024)), 0);
-    assert_eq!(check(&line(1_025)), 3 * 65_536);
+    let solid = |x| Row::new(Kind::Solid, [x, 0, 0]);
+    let check = |rows: Vec<Row>| probe_check(&BENCH_PROFILE, &redstone::table(rows));
+    assert_eq!(check(vec![solid(1_000_000)]), 0);
+    assert_eq!(check(vec![solid(1_000_001)]), 4 * 65_536);
+    assert_eq!(check((0..1_024).map(solid).collect()), 0);
+    assert_eq!(check((0..1_025).map(solid).collect()), 3 * 65_536);
 }
 
 #[test]

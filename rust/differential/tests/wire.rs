@@ -12,10 +12,10 @@ mod compared {
     use differential::oracle::{Oracle, connection_number};
     use differential::probe::{probe_infer, probe_resolved};
     use differential::suite::{assert_agrees, assert_alterations_reported, good_cases, panics, with_damaged};
-    use differential::table::{self, Row, kind};
     use differential::wire::{ALTERATIONS, compare_case};
     use original::wire::infer_wire_connection;
     use original::world::{Facing, Pos, WireConnection};
+    use redstone::{Kind, Row};
 
     #[test]
     fn wire_agrees_with_the_original() {
@@ -25,14 +25,14 @@ mod compared {
     /// The original panics along Up and Down, and knows no other facing.
     #[test]
     fn an_arm_along_no_horizontal_facing_is_none() {
-        let dust = [-1, 0, 1].map(|y| Row::new([0, y, 0], kind::DUST));
-        let (profile, table) = (BENCH_PROFILE.to_vec(), table::encode(&dust));
+        let dust = [-1, 0, 1].map(|y| Row::new(Kind::RedstoneWire, [0, y, 0]));
+        let case = Case::new("three dust", BENCH_PROFILE, dust);
+        let Case { profile, table, .. } = &case;
         for facing in [0, 5, 6, 7, 255, 257, u32::MAX] {
-            let inferred = probe_infer(&profile, &table, 0, 0, 0, facing);
-            let resolved = probe_resolved(&profile, &table, 0, 0, 0, facing);
+            let inferred = probe_infer(profile, table, 0, 0, 0, facing);
+            let resolved = probe_resolved(profile, table, 0, 0, 0, facing);
             assert_eq!([inferred, resolved], [connection_number(WireConnection::None); 2], "{facing}");
         }
-        let case = Case { seed: 0, sort: "three dust", profile, table };
         let oracle = Oracle::new(&case);
         let world = oracle.world();
         assert!(panics(|| infer_wire_connection(world, Pos::new(0, 0, 0), Facing::Up)));

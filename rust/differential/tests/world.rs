@@ -11,9 +11,9 @@ mod compared {
     use differential::generate::{BENCH_PROFILE, Case};
     use differential::probe::probe_offset;
     use differential::suite::{assert_agrees, assert_alterations_reported, good_cases, panics, with_damaged};
-    use differential::table::{self, Row};
     use differential::world::{ALTERATIONS, compare_case};
     use original::world::Pos;
+    use redstone::{Kind, Row, Shape};
 
     #[test]
     fn world_agrees_with_the_original() {
@@ -22,17 +22,17 @@ mod compared {
 
     #[test]
     fn traits_of_every_kind_shape_and_profile_byte() {
-        let kinds = (1..=12).flat_map(|kind| (0..=6).map(move |shape| (kind, shape)));
-        let all = kinds.flat_map(|(kind, shape)| (0..=31).map(move |bits| (kind, shape, bits)));
-        let cases = all.map(|(kind, shape, bits)| one_row(kind, shape, bits));
+        let shapes =
+            |kind: &'static Kind| Shape::ALL.iter().map(|shape| Row::new(*kind, [0; 3]).with_shape(*shape));
+        let rows = Kind::ALL.iter().flat_map(shapes);
+        let cases = rows.flat_map(|row| (0..=31).map(move |bits| one_row(row, bits)));
         assert_agrees("single blocks", cases, compare_case);
     }
 
-    fn one_row(kind: u8, shape: u8, bits: u8) -> Case {
-        let mut profile = BENCH_PROFILE.to_vec();
-        profile[usize::from(kind)] = bits;
-        let row = Row { shape, ..Row::new([0; 3], kind) };
-        Case { seed: 0, sort: "one block", profile, table: table::encode(&[row]) }
+    fn one_row(row: Row, bits: u8) -> Case {
+        let mut profile = BENCH_PROFILE;
+        profile[usize::from(row.kind().code())] = bits;
+        Case::new("one block", profile, [row])
     }
 
     /// The original's sum overflows: it panics, or wraps where overflow is not checked.

@@ -31,6 +31,17 @@ pub fn crates() -> Vec<String> {
     lines.filter_map(|line| Some(line.split_once(':')?.0.to_string())).collect()
 }
 
+/// The packages of the Cargo workspace.
+pub fn packages() -> Vec<String> {
+    let folders = names_in("rust").into_iter().map(|folder| format!("rust/{folder}/Cargo.toml"));
+    let manifests = folders.filter(|manifest| path(manifest).is_file()).map(text);
+    let name = |manifest: String| {
+        let line = manifest.lines().find_map(|line| line.strip_prefix("name = "));
+        line.expect("a package has a name").trim_matches('"').to_string()
+    };
+    manifests.map(name).collect()
+}
+
 /// The cells of every table row of a document, without the rows of heads and of dashes.
 pub fn table_rows(document: &str) -> Vec<Vec<String>> {
     let lines: Vec<_> = document.lines().collect();

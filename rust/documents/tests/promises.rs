@@ -3,7 +3,7 @@
 
 use std::collections::BTreeSet;
 
-use documents::{crates, marked, names_in, path, table_rows, text};
+use documents::{crates, marked, names_in, packages, path, table_rows, text};
 
 /// An edit as CRATE and the name of its file, without `.edit`.
 type Edit = (String, String);
@@ -174,6 +174,7 @@ fn every_path_that_a_document_names_is_there() {
 fn every_crate_is_in_the_architecture() {
     let rows = table_rows(&text("docs/ARCHITECTURE.md"));
     let named: BTreeSet<_> = rows.iter().flat_map(|row| marked(&row[0], '`')).collect();
-    let missing: Vec<_> = crates().into_iter().filter(|name| !named.contains(name.as_str())).collect();
+    let all = crates().into_iter().chain(packages());
+    let missing: Vec<_> = all.filter(|name| !named.contains(name.as_str())).collect();
     assert!(missing.is_empty(), "not in docs/ARCHITECTURE.md: {missing:?}");
 }

@@ -13,7 +13,7 @@ mod profile;
 include!(concat!(env!("OUT_DIR"), "/modules.rs"));
 
 pub use physical::{ComponentId, ConnectionKind, PhysicalComponent, PhysicalConnection, VerifiedTopology};
-pub use profile::set_profile;
+pub use profile::{Profile, Profiled};
 pub use world::{BlockKind, BlockProperties};
 
 pub mod connectivity {

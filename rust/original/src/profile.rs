@@ -5,17 +5,44 @@ use std::cell::Cell;
 use crate::blocks::{BlockBehaviorProfile, UpdateModel};
 use crate::world::BlockProperties;
 
+/// A byte for each kind, from Air on.
+pub type Profile = [u8; 13];
+
 thread_local! {
-    static PROFILE: Cell<[u8; 13]> = const { Cell::new([0; 13]) };
+    static IN_FORCE: Cell<Profile> = const { Cell::new([0; 13]) };
 }
 
-/// Sets the profile that the original answers by on this thread: a byte for each kind from Air on.
-pub fn set_profile(profile: [u8; 13]) {
-    PROFILE.set(profile);
+/// Something of the original's with the profile that it answers by, which is put in force on this thread whenever it is
+/// reached for.
+#[derive(Clone, Debug)]
+pub struct Profiled<T> {
+    profile: Profile,
+    of: T,
+}
+
+impl<T> Profiled<T> {
+    pub fn new(profile: Profile, of: T) -> Self {
+        Self { profile, of }
+    }
+
+    pub fn get(&self) -> &T {
+        IN_FORCE.set(self.profile);
+        &self.of
+    }
+
+    pub fn get_mut(&mut self) -> &mut T {
+        IN_FORCE.set(self.profile);
+        &mut self.of
+    }
+
+    /// What is made of it, with the same profile.
+    pub fn map<U>(&self, make: impl FnOnce(&T) -> U) -> Profiled<U> {
+        Profiled { profile: self.profile, of: make(self.get()) }
+    }
 }
 
 pub(crate) fn of_kind(kind: usize) -> BlockBehaviorProfile {
-    let has = |bit: u8| PROFILE.get()[kind] & bit != 0;
+    let has = |bit: u8| IN_FORCE.get()[kind] & bit != 0;
     BlockBehaviorProfile {
         properties: BlockProperties {
             supports_components: has(1),

@@ -1,16 +1,18 @@
 //! A bench's answers held against those that are written.
 
+use redstone::{Kind, Row, STATE_BYTES};
+use redstone_text::{Step, arms_text, position_text};
+
 use super::Fault;
 use super::bench::{Bench, Settled};
-use super::document::{Example, Shown, Sort, Step, Written};
-use super::words::arms_text;
-use crate::refusals::STATE_BYTES;
+use super::document::{Example, Shown, Sort, Turn, Written};
 use crate::report;
-use crate::table::{self, Position, Row, kind};
+use crate::table::{self, Position};
 
 /// Puts a table through a bench, once for each block of answers, up to the first line that differs.
 pub fn check<B: Bench>(example: &Example, bench: impl Fn() -> B) -> Result<(), Fault> {
-    example.answers.iter().try_for_each(|written| compare(written, &answers(written, &example.rows, bench())))
+    let answers = |written| answers(written, &example.table.rows, bench());
+    example.answers.iter().try_for_each(|written| compare(written, &answers(written)))
 }
 
 fn compare(written: &Written, answers: &[String]) -> Result<(), Fault> {
@@ -18,7 +20,7 @@ fn compare(written: &Written, answers: &[String]) -> Result<(), Fault> {
     let first = pairs.find(|(line, answer)| line.text != *answer).map(|(line, _)| *line);
     let uneven = (written.lines.len() != answers.len()).then_some(written.word);
     match first.or(uneven) {
-        Some(line) => Err(line.fault(format!("the block is to be\n{}", answers.join("\n")))),
+        Some(line) => Err(Fault::at(line, format!("the block is to be\n{}", answers.join("\n")))),
         None => Ok(()),
     }
 }
@@ -31,7 +33,7 @@ fn answers(written: &Written, rows: &[Row], mut bench: impl Bench) -> Vec<String
     };
     match &written.sort {
         Sort::Output => lines(&output(rows, &fresh)),
-        Sort::Run(steps) => run(written, steps, rows, fresh, bench),
+        Sort::Run(turns) => run(turns, rows, fresh, bench),
         Sort::Redrawn => redrawn(&bench.redrawn()),
         Sort::Unsupported => unsupported(rows, &bench.unsupported()),
     }
@@ -47,34 +49,28 @@ fn output(rows: &[Row], settled: &Settled) -> String {
 }
 
 fn numbers(rows: &[Row], settled: &Settled, row: usize) -> (Position, [u8; 3]) {
-    (rows[row].position, settled.columns.each_ref().map(|column| column[row]))
+    (rows[row].position(), settled.columns.each_ref().map(|column| column[row]))
 }
 
-/// What is done stands as it is written, what is shown as the bench has it.
-fn run(
-    written: &Written,
-    steps: &[Step],
-    rows: &[Row],
-    mut settled: Settled,
-    mut bench: impl Bench,
-) -> Vec<String> {
-    let mut answers = Vec::new();
-    for (line, step) in written.lines.iter().zip(steps) {
-        let mut text = line.text.to_owned();
-        match *step {
-            Step::Tick(ticks) => settled = bench.tick(ticks),
-            Step::Switch { row, powered } => settled = bench.switch(rows[row].position, powered),
-            Step::Show { what, row } => text = shown(what, rows, &settled, row),
+/// What is done stands as it is printed, what is shown as the bench has it.
+fn run(turns: &[Turn], rows: &[Row], mut settled: Settled, mut bench: impl Bench) -> Vec<String> {
+    let answer = |turn: &Turn| match *turn {
+        Turn::Done(step) => {
+            settled = match step {
+                Step::Tick(ticks) => bench.tick(ticks),
+                Step::Switch { position, powered } => bench.switch(position, powered),
+            };
+            step.to_string()
         }
-        answers.push(text);
-    }
-    answers
+        Turn::Shown(what, row) => shown(what, rows, &settled, row),
+    };
+    turns.iter().map(answer).collect()
 }
 
 fn shown(what: Shown, rows: &[Row], settled: &Settled, row: usize) -> String {
     let state = |word: &str, byte: usize| {
-        let [x, y, z] = rows[row].position;
-        format!("{word}={x},{y},{z},{}", settled.state[STATE_BYTES * row + byte])
+        let at = position_text(rows[row].position());
+        format!("{word}={at},{}", settled.state[STATE_BYTES * row + byte])
     };
     match what {
         Shown::Row => report::row(&numbers(rows, settled, row)),
@@ -85,18 +81,16 @@ fn shown(what: Shown, rows: &[Row], settled: &Settled, row: usize) -> String {
 }
 
 fn redrawn(table: &[u8]) -> Vec<String> {
-    let dust = table::decode(table).into_iter().filter(|row| row.kind == kind::DUST);
-    let line = |Row { position: [x, y, z], arms, .. }| {
-        format!("arms={x},{y},{z},{}", arms_text(arms.expect("the redraw stores arms")))
+    let dust = table::rows(table).into_iter().filter(|row| row.kind() == Kind::RedstoneWire);
+    let line = |row: Row| {
+        let arms = row.arms().expect("the redraw stores arms");
+        format!("arms={},{}", position_text(row.position()), arms_text(arms))
     };
     dust.map(line).collect()
 }
 
-fn unsupported(rows: &[Row], listed: &[u16]) -> Vec<String> {
-    let line = |row: &u16| {
-        let [x, y, z] = rows[usize::from(*row)].position;
-        format!("unsupported={x},{y},{z}")
-    };
+fn unsupported(rows: &[Row], listed: &[usize]) -> Vec<String> {
+    let line = |row: &usize| format!("unsupported={}", position_text(rows[*row].position()));
     match listed {
         [] => vec!["unsupported=none".to_owned()],
         _ => listed.iter().map(line).collect(),

@@ -12,7 +12,7 @@ pub trait Bench {
     /// The table with its arms drawn anew.
     fn redrawn(&self) -> Vec<u8>;
     /// The numbers of the rows that the support list names.
-    fn unsupported(&self) -> Vec<u16>;
+    fn unsupported(&self) -> Vec<usize>;
 }
 
 /// What a call leaves.

@@ -3,37 +3,21 @@
 use std::collections::BTreeSet;
 use std::iter::from_fn;
 
+use redstone_text::{Line, Step, Table, lines};
+
 use super::Fault;
-use super::words::{self, Read, numbers, one_of};
-use crate::generate::{BENCH_PROFILE, Case};
-use crate::table::{self, Position, Row};
+use crate::generate::Case;
+use crate::table::Position;
 
-#[derive(Clone, Copy)]
-pub struct Line<'a> {
-    pub number: usize,
-    pub text: &'a str,
-}
-
-impl Line<'_> {
-    pub fn fault(self, what: impl Into<String>) -> Fault {
-        Fault { line: self.number, what: what.into() }
-    }
-
-    pub fn read<T>(self, read: impl Fn(&str) -> Read<T>) -> Result<T, Fault> {
-        read(self.text).map_err(|what| self.fault(what))
-    }
-}
-
-/// A table under the bench profile, and what is written of it.
+/// A table, and what is written of it.
 pub struct Example<'a> {
-    pub rows: Vec<Row>,
+    pub table: Table,
     pub answers: Vec<Written<'a>>,
 }
 
 impl Example<'_> {
     pub fn case(&self) -> Case {
-        let table = table::encode(&self.rows);
-        Case { seed: 0, sort: "docs/DIFFERENCES.md", profile: BENCH_PROFILE.to_vec(), table }
+        Case::new("docs/DIFFERENCES.md", self.table.profile, self.table.rows.iter().copied())
     }
 }
 
@@ -48,19 +32,19 @@ pub enum Sort {
     /// What the program `settle` writes.
     Output,
     /// What each line of a run does or shows.
-    Run(Vec<Step>),
+    Run(Vec<Turn>),
     /// The arms of each dust after the redraw.
     Redrawn,
     /// The rows of the support list.
     Unsupported,
 }
 
-/// A line of a run. Rows go by their numbers.
+/// A line of a run.
 #[derive(Clone, Copy)]
-pub enum Step {
-    Tick(u32),
-    Switch { row: usize, powered: bool },
-    Show { what: Shown, row: usize },
+pub enum Turn {
+    Done(Step),
+    /// Of the row of this number.
+    Shown(Shown, usize),
 }
 
 #[derive(Clone, Copy)]
@@ -71,6 +55,9 @@ pub enum Shown {
     Candidate,
 }
 
+const SHOWN: [(&str, Shown); 4] =
+    [("row", Shown::Row), ("device", Shown::Device), ("lamp", Shown::Lamp), ("candidate", Shown::Candidate)];
+
 /// The tables of a document, of which it has at least one, and one under the heading of each entry.
 pub fn examples(document: &str) -> Result<Vec<Example<'_>>, Fault> {
     let parts = parts(document)?;
@@ -78,24 +65,22 @@ pub fn examples(document: &str) -> Result<Vec<Example<'_>>, Fault> {
     let mut blocks = parts.into_iter().filter_map(Part::block).peekable();
     let mut examples = Vec::new();
     while let Some(block) = blocks.next() {
-        let rows = rows(&block)?;
+        let table = table(&block)?;
         let answers = from_fn(|| blocks.next_if(|block| block.word.text != TABLE));
-        let answers: Vec<_> = answers.map(|block| written(block, &rows)).collect::<Result<_, _>>()?;
+        let answers: Vec<_> = answers.map(|block| written(block, &table)).collect::<Result<_, _>>()?;
         if answers.is_empty() {
-            return Err(block.word.fault("the table has no answer"));
+            return Err(Fault::at(block.word, "the table has no answer"));
         }
-        examples.push(Example { rows, answers });
+        examples.push(Example { table, answers });
     }
     if examples.is_empty() {
-        return Err(Fault { line: 1, what: "there is no table in the document".to_owned() });
+        return Err(Fault::new(1, "there is no table in the document"));
     }
     Ok(examples)
 }
 
 const FENCE: &str = "```";
 const TABLE: &str = "table";
-/// What the heading of an entry begins with.
-pub const ENTRY: &str = "### ";
 
 enum Part<'a> {
     Heading(Line<'a>),
@@ -119,13 +104,13 @@ impl<'a> Part<'a> {
 
 fn parts(document: &str) -> Result<Vec<Part<'_>>, Fault> {
     let mut parts = Vec::new();
-    let mut lines = (1..).zip(document.lines()).map(|(number, text)| Line { number, text });
+    let mut lines = lines(document);
     while let Some(line) = lines.next() {
         if let Some(text) = line.text.strip_prefix(FENCE) {
             let word = Line { text, ..line };
             parts.push(Part::Block(Block { word, lines: body(word, &mut lines)? }));
         } else if line.text.trim_start().starts_with(FENCE) {
-            return Err(line.fault("a block begins at the start of a line"));
+            return Err(Fault::at(line, "a block begins at the start of a line"));
         } else if line.text.starts_with('#') {
             parts.push(Part::Heading(line));
         }
@@ -142,7 +127,7 @@ fn body<'a>(word: Line<'a>, lines: &mut impl Iterator<Item = Line<'a>>) -> Resul
         }
         body.push(line);
     }
-    Err(word.fault("the block has no end"))
+    Err(Fault::at(word, "the block has no end"))
 }
 
 /// Each entry has a number of its own, and a table under it.
@@ -150,81 +135,80 @@ fn check_headings(parts: &[Part]) -> Result<(), Fault> {
     let mut numbers = BTreeSet::new();
     for (at, part) in parts.iter().enumerate() {
         let Part::Heading(line) = part else { continue };
-        let Some(heading) = line.text.strip_prefix(ENTRY) else { continue };
-        let (number, _) = line.read(|_| entry(heading))?;
+        let Some((number, _)) = entry(*line)? else { continue };
         if !numbers.insert(number) {
-            return Err(line.fault(format!("the number {number} stands twice")));
+            return Err(Fault::at(*line, format!("the number {number} stands twice")));
         }
         if !matches!(parts.get(at + 1), Some(Part::Block(block)) if block.word.text == TABLE) {
-            return Err(line.fault("no table stands under the heading"));
+            return Err(Fault::at(*line, "no table stands under the heading"));
         }
     }
     Ok(())
 }
 
-/// The number and the title in the heading of an entry.
-pub fn entry(heading: &str) -> Read<(u32, &str)> {
-    let (number, title) = heading.split_once(". ").ok_or_else(|| format!("{heading:?} has no number"))?;
-    Ok((words::number(number)?, title))
+/// The number and the title of an entry, if the line is the heading of one.
+pub fn entry(line: Line<'_>) -> Result<Option<(u32, &str)>, Fault> {
+    let Some(heading) = line.text.strip_prefix("### ") else { return Ok(None) };
+    let numbered = heading.split_once(". ").and_then(|(number, title)| Some((number.parse().ok()?, title)));
+    numbered.map(Some).ok_or_else(|| Fault::at(line, "the heading has no number"))
 }
 
-/// The rows of a table, in the table's order.
-fn rows(block: &Block) -> Result<Vec<Row>, Fault> {
+/// The table of a block, whose lines are to stand as they are printed, in any order.
+fn table(block: &Block) -> Result<Table, Fault> {
     if block.word.text != TABLE {
-        return Err(block.word.fault("no table stands before this block"));
+        return Err(Fault::at(block.word, "no table stands before this block"));
     }
-    let mut rows: Vec<_> = block.lines.iter().map(|line| line.read(words::row)).collect::<Result<_, _>>()?;
-    rows.sort_by_key(|row| row.position);
-    Ok(rows)
+    if block.lines.is_empty() {
+        return Err(Fault::at(block.word, "the table has no lines"));
+    }
+    let table = Table::read(block.lines.iter().copied())?;
+    let printed = table.to_string();
+    match block.lines.iter().find(|line| printed.lines().all(|other| other != line.text)) {
+        Some(line) => Err(Fault::at(*line, format!("the block's lines are to be among\n{printed}"))),
+        None => Ok(table),
+    }
 }
 
-fn written<'a>(Block { word, lines }: Block<'a>, rows: &[Row]) -> Result<Written<'a>, Fault> {
+fn written<'a>(Block { word, lines }: Block<'a>, table: &Table) -> Result<Written<'a>, Fault> {
     let sort = match word.text {
         "output" => Sort::Output,
-        "run" => Sort::Run(run(word, &lines, rows)?),
+        "run" => Sort::Run(run(word, &lines, table)?),
         "redrawn" => Sort::Redrawn,
         "unsupported" => Sort::Unsupported,
-        other => return Err(word.fault(format!("{other:?} is no word for a block"))),
+        other => return Err(Fault::at(word, format!("{other:?} is no word for a block"))),
     };
     Ok(Written { word, sort, lines })
 }
 
-fn run(word: Line, lines: &[Line], rows: &[Row]) -> Result<Vec<Step>, Fault> {
-    let read = |line: &Line| line.read(|text| step(text, rows));
-    let steps: Vec<_> = lines.iter().map(read).collect::<Result<_, _>>()?;
-    match steps.last() {
-        Some(Step::Show { .. }) => Ok(steps),
-        _ => Err(word.fault("the run does not end with something shown")),
+fn run(word: Line, lines: &[Line], table: &Table) -> Result<Vec<Turn>, Fault> {
+    let turns: Vec<_> = lines.iter().map(|line| turn(*line, table)).collect::<Result<_, _>>()?;
+    match turns.last() {
+        Some(Turn::Shown(..)) => Ok(turns),
+        _ => Err(Fault::at(word, "the run does not end with something shown")),
     }
 }
 
-fn step(text: &str, rows: &[Row]) -> Read<Step> {
-    match text.split(' ').collect::<Vec<_>>()[..] {
-        ["tick", ticks] => Ok(Step::Tick(words::number(ticks)?)),
-        ["switch", at, powered] => {
-            let powered = one_of(&["off", "on"], powered)? == 2;
-            Ok(Step::Switch { row: row_at(rows, numbers(at)?)?, powered })
-        }
-        _ => show(text, rows),
+fn turn(line: Line, table: &Table) -> Result<Turn, Fault> {
+    let step = Step::read(line)?;
+    if let Some(Step::Switch { position, .. }) = step {
+        row_at(line, table, position)?;
     }
+    step.map_or_else(|| shown(line, table), |step| Ok(Turn::Done(step)))
 }
 
-fn show(text: &str, rows: &[Row]) -> Read<Step> {
-    let (word, shown) = text.split_once('=').ok_or_else(|| format!("{text:?} is no step of a run"))?;
-    let what = match word {
-        "row" => Shown::Row,
-        "device" => Shown::Device,
-        "lamp" => Shown::Lamp,
-        "candidate" => Shown::Candidate,
-        _ => return Err(format!("{word:?} is nothing that a run shows")),
+fn shown(line: Line, table: &Table) -> Result<Turn, Fault> {
+    const EXPECTED: &str = "a step, or something shown";
+    let word = line.words().expect(EXPECTED)?;
+    let (name, numbers) = word.split_once('=').ok_or_else(|| word.expected(EXPECTED))?;
+    let shown = name.one_of("something shown", SHOWN)?;
+    let any = i32::MIN..=i32::MAX;
+    let position = match shown {
+        Shown::Row => numbers.numbers(any, "x,y,z,signal,weak,strong").map(|[x, y, z, _, _, _]| [x, y, z]),
+        _ => numbers.numbers(any, "x,y,z,byte").map(|[x, y, z, _]| [x, y, z]),
     };
-    let at = match what {
-        Shown::Row => numbers(shown).map(|[x, y, z, _, _, _]| [x, y, z]),
-        _ => numbers(shown).map(|[x, y, z, _]| [x, y, z]),
-    };
-    Ok(Step::Show { what, row: row_at(rows, at?)? })
+    Ok(Turn::Shown(shown, row_at(line, table, position?)?))
 }
 
-fn row_at(rows: &[Row], at: Position) -> Read<usize> {
-    rows.iter().position(|row| row.position == at).ok_or_else(|| format!("the table has no row at {at:?}"))
+fn row_at(line: Line, table: &Table, at: Position) -> Result<usize, Fault> {
+    table.find(at).ok_or_else(|| Fault::at(line, format!("the table has no row at {at:?}")))
 }

@@ -13,7 +13,7 @@ pub fn named_tests(document: &str) -> Result<Vec<(usize, &str)>, Fault> {
         let cell = text.trim_matches('|').rsplit('|').next().unwrap_or_default().trim();
         let names: Vec<_> = cell.split('`').skip(1).step_by(2).map(|name| (line, name)).collect();
         if names.is_empty() && !["none", "test", "---"].contains(&cell) {
-            return Err(Fault { line, what: format!("{cell:?} names no test") });
+            return Err(Fault::new(line, format!("{cell:?} names no test")));
         }
         named.extend(names);
     }

@@ -20,7 +20,7 @@ impl<'a> Original<'a> {
     }
 
     fn step(&self, step: Step) -> Settled {
-        let mut answer = self.run.answer(&step);
+        let answer = self.run.answer(&step);
         let columns = [SIGNAL, WEAK, STRONG].map(|column| answer.bytes(column));
         Settled { rounds: answer.number as u32, state: answer.bytes(STATE), columns }
     }
@@ -44,9 +44,9 @@ impl Bench for Original<'_> {
         self.oracle.answer(&WireQuery::Redraw).bytes(0)
     }
 
-    fn unsupported(&self) -> Vec<u16> {
-        let mut answer = self.oracle.answer(&WorldQuery::SupportIssues { entries: self.oracle.rows.len() });
-        let count = answer.number as usize;
-        answer.buffers[0].entries()[..count].to_vec()
+    fn unsupported(&self) -> Vec<usize> {
+        let answer = self.oracle.answer(&WorldQuery::SupportIssues { entries: self.oracle.rows.len() });
+        let listed = &answer.buffers[0].entries[..answer.number as usize];
+        listed.iter().map(|row| usize::from(*row)).collect()
     }
 }

@@ -1,82 +1,67 @@
-//! The proved library, by the editor's crate; the redraw and the support list by the probe.
+//! The proved library, by the editor's circuit.
 
-use ::redstone::{Columns, Rounds};
+use ::redstone::Circuit;
 
 use super::bench::{Bench, Settled};
 use crate::generate::Case;
-use crate::probe::{probe_redraw, probe_support_issues};
-use crate::refusals::{Refusal, STATE_BYTES};
+use crate::refusals::Refusal;
 use crate::table::Position;
 
 const LIMIT: u32 = 128;
 const NOT_REFUSED: &str = "a table that fresh accepts is accepted by every call";
 
-pub struct Proved {
-    case: Case,
-    state: Vec<u8>,
-    tick: u32,
-}
+pub struct Proved(Result<Circuit, ::redstone::Refusal>);
 
 impl Proved {
     pub fn new(case: Case) -> Self {
-        Self { state: vec![0; STATE_BYTES * case.rows()], case, tick: 0 }
+        Self(Circuit::from_table(&case.profile, case.table))
     }
 
-    fn call(
-        &mut self,
-        call: impl FnOnce(&mut Self, Columns) -> Result<Rounds, ::redstone::Refusal>,
-    ) -> Result<Settled, Refusal> {
-        let [mut signal, mut weak, mut strong] = [(); 3].map(|()| vec![0; self.case.rows()]);
-        let columns = Columns { signal: &mut signal, weak: &mut weak, strong: &mut strong };
-        let rounds = call(self, columns).map_err(|refusal| {
-            let ::redstone::Refusal { number, row, .. } = refusal;
-            Refusal { number, row }
-        })?;
-        Ok(Settled { rounds: rounds.get(), state: self.state.clone(), columns: [signal, weak, strong] })
+    fn circuit(&self) -> &Circuit {
+        self.0.as_ref().expect(NOT_REFUSED)
     }
 
-    fn settle(&mut self) -> Result<Settled, Refusal> {
-        let devices: Vec<_> = self.state.iter().step_by(STATE_BYTES).copied().collect();
-        self.call(|Self { case, .. }, columns| {
-            ::redstone::settle(&case.profile, &case.table, &devices, LIMIT, columns)
-        })
+    /// What a call leaves.
+    fn called<T>(&mut self, call: impl FnOnce(&mut Circuit) -> Result<T, ::redstone::Refusal>) -> Settled {
+        let circuit = self.0.as_mut().expect(NOT_REFUSED);
+        call(circuit).expect(NOT_REFUSED);
+        settled(circuit)
+    }
+}
+
+fn settled(circuit: &Circuit) -> Settled {
+    let columns = circuit.settled();
+    Settled {
+        rounds: circuit.rounds().get(),
+        state: circuit.state().to_vec(),
+        columns: [columns.signal(), columns.weak(), columns.strong()].map(<[u8]>::to_vec),
     }
 }
 
 impl Bench for Proved {
     /// Both calls that settle the fresh devices are to answer the same.
     fn fresh(&mut self) -> Result<Settled, Refusal> {
-        let fresh = self.call(|Self { case, state, .. }, columns| {
-            ::redstone::fresh(&case.profile, &case.table, state, columns)
-        });
-        assert_eq!(self.settle(), fresh);
-        fresh
+        let circuit = self.0.as_ref().map_err(|refusal| Refusal::from(*refusal))?;
+        let other = circuit.settle(&circuit.devices(), LIMIT).expect(NOT_REFUSED);
+        assert_eq!(circuit.settled(), &other);
+        Ok(settled(circuit))
     }
 
     fn tick(&mut self, ticks: u32) -> Settled {
-        let ticked = self.call(|Self { case, state, tick }, columns| {
-            ::redstone::tick(&case.profile, &case.table, state, *tick, ticks, columns)
-        });
-        self.tick += ticks;
-        ticked.expect(NOT_REFUSED)
+        self.called(|circuit| circuit.tick(ticks))
     }
 
     fn switch(&mut self, at: Position, powered: bool) -> Settled {
-        let switched = self.call(|Self { case, state, .. }, columns| {
-            ::redstone::switch(&case.profile, &mut case.table, state, at, powered, columns)
-        });
-        switched.expect(NOT_REFUSED)
+        self.called(|circuit| circuit.switch(at, powered))
     }
 
     fn redrawn(&self) -> Vec<u8> {
-        let mut table = self.case.table.clone();
-        assert_eq!(probe_redraw(&self.case.profile, &mut table), 0, "{NOT_REFUSED}");
-        table
+        let mut circuit = self.circuit().clone();
+        circuit.redraw().expect(NOT_REFUSED);
+        circuit.table().to_vec()
     }
 
-    fn unsupported(&self) -> Vec<u16> {
-        let mut column = vec![0; self.case.rows()];
-        let count = probe_support_issues(&self.case.profile, &self.case.table, &mut column);
-        column[..count as usize].to_vec()
+    fn unsupported(&self) -> Vec<usize> {
+        self.circuit().unsupported().expect(NOT_REFUSED)
     }
 }

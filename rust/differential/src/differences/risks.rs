@@ -2,13 +2,14 @@
 
 use std::collections::{BTreeMap, BTreeSet};
 
-use super::Fault;
-use super::document::{ENTRY, Line, entry};
-use super::words::{Read, number, one_of};
+use redstone_text::{Line, Word, lines};
 
-/// The risks, the highest first, and the part in which the entries of each stand.
-const RISKS: [&str; 4] = ["high", "middle", "low", "apart"];
-const PARTS: [&str; 4] = ["High risk", "Middle risk", "Low risk", "Of another sort"];
+use super::Fault;
+use super::document::entry;
+
+/// The risks, the highest first, each with the part in which its entries stand.
+const RISKS: [(&str, &str); 4] =
+    [("high", "High risk"), ("middle", "Middle risk"), ("low", "Low risk"), ("apart", "Of another sort")];
 const DIRECTIONS: [&str; 5] = ["+", "-", "timing", "support", "input"];
 /// Of these parts the checklist names every entry.
 const CHECKED: [&str; 2] = ["High risk", "Middle risk"];
@@ -28,11 +29,12 @@ type Placed<'a> = (&'a str, Line<'a>);
 
 fn placed(document: &str) -> Vec<Placed<'_>> {
     let mut part = "";
-    let place = |(number, text): (usize, _)| {
-        part = str::strip_prefix(text, "## ").unwrap_or(part);
-        (part, Line { number, text })
-    };
-    (1..).zip(document.lines()).map(place).collect()
+    let mut placed = Vec::new();
+    for line in lines(document) {
+        part = line.text.strip_prefix("## ").unwrap_or(part);
+        placed.push((part, line));
+    }
+    placed
 }
 
 fn in_part<'a>(part: &str, lines: &[Placed<'a>]) -> Vec<Line<'a>> {
@@ -51,9 +53,9 @@ type Entries<'a> = BTreeMap<u32, Entry<'a>>;
 fn entries<'a>(lines: &[Placed<'a>]) -> Result<Entries<'a>, Fault> {
     let mut entries = BTreeMap::new();
     for &(part, heading) in lines {
-        let Some(text) = heading.text.strip_prefix(ENTRY) else { continue };
-        let (number, title) = entry(text).map_err(|what| heading.fault(what))?;
-        entries.insert(number, Entry { part, heading, title });
+        if let Some((number, title)) = entry(heading)? {
+            entries.insert(number, Entry { part, heading, title });
+        }
     }
     Ok(entries)
 }
@@ -62,34 +64,39 @@ fn check_table(entries: &Entries, lines: Vec<Line>) -> Result<(), Fault> {
     let mut left: BTreeSet<_> = entries.keys().collect();
     let mut last = 0;
     for line in lines.into_iter().filter(|line| line.text.starts_with('|')).skip(2) {
-        let (risk, number) = line.read(|text| row(entries, text))?;
+        let (risk, number) = row(entries, line)?;
         if !left.remove(&number) {
-            return Err(line.fault(format!("entry {number} stands in the table twice")));
+            return Err(Fault::at(line, format!("entry {number} stands in the table twice")));
         }
         if risk < last {
-            return Err(line.fault("a lower risk stands above this one"));
+            return Err(Fault::at(line, "a lower risk stands above this one"));
         }
         last = risk;
     }
     match left.first() {
-        Some(number) => Err(entries[number].heading.fault("the table of risks does not have this entry")),
+        Some(number) => {
+            Err(Fault::at(entries[number].heading, "the table of risks does not have this entry"))
+        }
         None => Ok(()),
     }
 }
 
 /// The risk, counted from the highest, and the number of the entry.
-fn row(entries: &Entries, text: &str) -> Read<(u8, u32)> {
-    let cells: Vec<_> = text.trim_matches('|').split('|').map(str::trim).collect();
-    let [risk, of, directions, title] = cells[..] else {
-        return Err("a row has a risk, a number, directions and a title".to_owned());
+fn row(entries: &Entries, line: Line) -> Result<(usize, u32), Fault> {
+    let cells: Vec<_> = line.whole().split('|').map(Word::trim).collect();
+    let [_, risk, number, directions, title, _] = cells[..] else {
+        return Err(Fault::at(line, "a row has a risk, a number, directions and a title"));
     };
-    let (risk, of) = (one_of(&RISKS, risk)?, number(of)?);
-    for direction in directions.split(", ") {
-        one_of(&DIRECTIONS, direction)?;
+    let risks = RISKS.iter().enumerate().map(|(at, (risk, part))| (*risk, (at, *part)));
+    let (risk, part) = risk.one_of("a risk", risks)?;
+    for direction in directions.split(',').map(Word::trim) {
+        direction.one_of("a direction", DIRECTIONS.map(|known| (known, ())))?;
     }
-    let entry = entries.get(&of).ok_or_else(|| format!("there is no entry {of}"))?;
-    if (entry.title, entry.part) != (title, PARTS[usize::from(risk) - 1]) {
-        return Err(format!("entry {of} is {:?} and stands in {:?}", entry.title, entry.part));
+    let of = number.number(1..=u32::MAX)?;
+    let entry = entries.get(&of).ok_or_else(|| number.expected("the number of an entry"))?;
+    if (entry.title, entry.part) != (title.text, part) {
+        let what = format!("entry {of} is {:?} and stands in {:?}", entry.title, entry.part);
+        return Err(Fault::at(line, what));
     }
     Ok((risk, of))
 }
@@ -97,16 +104,17 @@ fn row(entries: &Entries, text: &str) -> Read<(u8, u32)> {
 fn check_list(entries: &Entries, lines: Vec<Line>) -> Result<(), Fault> {
     let mut named = BTreeSet::new();
     for (first, item) in items(lines) {
-        for of in numbers_of(&item).map_err(|what| first.fault(what))? {
+        let numbers = numbers_of(&item);
+        for of in numbers.ok_or_else(|| Fault::at(first, "the item does not end with numbers in brackets"))? {
             if !entries.contains_key(&of) {
-                return Err(first.fault(format!("there is no entry {of}")));
+                return Err(Fault::at(first, format!("there is no entry {of}")));
             }
             named.insert(of);
         }
     }
     let left = entries.iter().find(|(of, entry)| CHECKED.contains(&entry.part) && !named.contains(of));
     match left {
-        Some((_, entry)) => Err(entry.heading.fault("the checklist does not name this entry")),
+        Some((_, entry)) => Err(Fault::at(entry.heading, "the checklist does not name this entry")),
         None => Ok(()),
     }
 }
@@ -125,8 +133,7 @@ fn items(lines: Vec<Line>) -> Vec<(Line, String)> {
 }
 
 /// The numbers between brackets at the end of an item.
-fn numbers_of(item: &str) -> Read<Vec<u32>> {
-    let numbers = item.strip_suffix(").").and_then(|item| item.rsplit_once('('));
-    let (_, numbers) = numbers.ok_or_else(|| format!("{item:?} does not end with numbers in brackets"))?;
-    numbers.split(", ").map(number).collect()
+fn numbers_of(item: &str) -> Option<Vec<u32>> {
+    let (_, numbers) = item.strip_suffix(").")?.rsplit_once('(')?;
+    numbers.split(", ").map(|number| number.parse().ok()).collect()
 }

@@ -1,10 +1,10 @@
 //! Wrong answers that the comparison must report.
 
+use redstone::{ROW_BYTES, STATE_BYTES};
+
 use super::{Call, Input, SIGNAL, STATE, STRONG, TABLE, WEAK};
 use crate::compare::{Alteration, Answers};
 use crate::probe::Probe;
-use crate::refusals::STATE_BYTES;
-use crate::table::ROW_BYTES;
 
 pub const ALTERATIONS: [Alteration<Call>; 11] = [
     Alteration {
@@ -12,7 +12,7 @@ pub const ALTERATIONS: [Alteration<Call>; 11] = [
         what: "no lamp is lit",
         alter: |_, _, answer| {
             if answer.refusal().is_none() {
-                let rows = answer.buffers[STATE].entries().chunks_mut(STATE_BYTES);
+                let rows = answer.buffers[STATE].entries.chunks_mut(STATE_BYTES);
                 rows.for_each(|row| row[2] = 0);
             }
         },
@@ -40,7 +40,7 @@ pub const ALTERATIONS: [Alteration<Call>; 11] = [
         what: "weak power ends at 14",
         alter: |_, _, answer| {
             if answer.refusal().is_none() {
-                let weak = answer.buffers[WEAK].entries().iter_mut();
+                let weak = answer.buffers[WEAK].entries.iter_mut();
                 weak.for_each(|power| *power = (*power).min(14));
             }
         },
@@ -50,14 +50,17 @@ pub const ALTERATIONS: [Alteration<Call>; 11] = [
         what: "a refused call clears a column",
         alter: |_, _, answer| {
             if answer.refusal().is_some() {
-                answer.buffers[STRONG].entries().fill(0);
+                answer.buffers[STRONG].entries.fill(0);
             }
         },
     },
     Alteration {
         function: "settle",
         what: "the byte after a column is written",
-        alter: |_, _, answer| *answer.buffers[SIGNAL].first_guard_after() = 0,
+        alter: |_, _, answer| {
+            let signal = &mut answer.buffers[SIGNAL];
+            signal.outside.push((signal.entries.len() as isize, 0));
+        },
     },
     Alteration {
         function: "tick",
@@ -74,7 +77,7 @@ pub const ALTERATIONS: [Alteration<Call>; 11] = [
         what: "the state stays as it was",
         alter: |_, call, answer| {
             if let Input::Tick { state, .. } = &call.input {
-                let entries = answer.buffers[STATE].entries().iter_mut();
+                let entries = answer.buffers[STATE].entries.iter_mut();
                 entries.zip(state).for_each(|(entry, byte)| *entry = (*byte).into());
             }
         },
@@ -83,7 +86,7 @@ pub const ALTERATIONS: [Alteration<Call>; 11] = [
         function: "switch",
         what: "byte 14 stays as it was",
         alter: |case, _, answer| {
-            let entries = answer.buffers[TABLE].entries().iter_mut();
+            let entries = answer.buffers[TABLE].entries.iter_mut();
             let bytes = entries.zip(&case.table).skip(14).step_by(ROW_BYTES);
             bytes.for_each(|(entry, byte)| *entry = (*byte).into());
         },
@@ -91,14 +94,14 @@ pub const ALTERATIONS: [Alteration<Call>; 11] = [
     Alteration {
         function: "switch",
         what: "the state, which is only read, is cleared",
-        alter: |_, _, answer| answer.buffers[STATE].entries().fill(0),
+        alter: |_, _, answer| answer.buffers[STATE].entries.fill(0),
     },
     Alteration {
         function: "switch",
         what: "signals end at 15",
         alter: |_, _, answer| {
             if answer.refusal().is_none() {
-                let signals = answer.buffers[SIGNAL].entries().iter_mut();
+                let signals = answer.buffers[SIGNAL].entries.iter_mut();
                 signals.for_each(|signal| *signal = (*signal).min(15));
             }
         },

@@ -1,44 +1,42 @@
 //! Inputs at the ends of what document 01 allows and one past them, each for every call.
 
+use redstone::{Arm, FARTHEST, Facing, Kind, MOST_ROWS, ROW_BYTES, Row, STATE_BYTES};
+
 use super::queries::fresh_devices;
 use super::{Call, Input};
 use crate::generate::{BENCH_PROFILE, Case};
 use crate::oracle::Oracle;
-use crate::refusals::STATE_BYTES;
-use crate::table::{self, FARTHEST, HORIZONTAL, MOST_ROWS, ROW_BYTES, Row, kind};
+use crate::table::HORIZONTAL;
 
 /// A case and a call on it.
 type Asked = (Case, Call);
 
-fn case(sort: &'static str, rows: &[Row]) -> Case {
-    Case { seed: 0, sort, profile: BENCH_PROFILE.to_vec(), table: table::encode(rows) }
+fn case(sort: &'static str, rows: impl IntoIterator<Item = Row>) -> Case {
+    Case::new(sort, BENCH_PROFILE, rows)
 }
 
 /// A lever on a lamp feeds a dust through a repeater and a comparator, and a torch hangs on the dust.
 fn small(sort: &'static str) -> Case {
-    let east = |x, kind| Row { facing: 2, ..Row::new([x, 1, 0], kind) };
+    let lever = Row::new(Kind::Lever, [0, 1, 0]).with_support([0, -1, 0]);
+    let east = |x, kind| Row::new(kind, [x, 1, 0]).with_facing(Facing::East);
+    let arms = [None, Some(Arm::Side), Some(Arm::None), Some(Arm::Up)];
     case(
         sort,
-        &[
-            Row::new([0, 0, 0], kind::LAMP),
-            Row {
-                powered: 2,
-                power_level: Some(9),
-                support_offset: Some([0, -1, 0]),
-                ..Row::new([0, 1, 0], kind::LEVER)
-            },
-            Row { delay: Some(3), ..east(1, kind::REPEATER) },
-            Row { subtract: true, ..east(2, kind::COMPARATOR) },
-            Row { arms: Some([0, 2, 1, 3]), ..Row::new([3, 1, 0], kind::DUST) },
-            Row { support_offset: Some([0, 0, -1]), ..Row::new([3, 1, 1], kind::TORCH) },
+        [
+            Row::new(Kind::RedstoneLamp, [0, 0, 0]),
+            lever.with_powered(true).with_power_level(9),
+            east(1, Kind::Repeater).with_delay(3),
+            east(2, Kind::Comparator).with_subtract(true),
+            Row::new(Kind::RedstoneWire, [3, 1, 0]).with_arms(arms),
+            Row::new(Kind::RedstoneTorch, [3, 1, 1]).with_support([0, 0, -1]),
         ],
     )
 }
 
 /// A line of as many blocks, of every kind.
 fn line(sort: &'static str, rows: usize) -> Case {
-    let row = |at: usize| Row::new([at as i32, 0, 0], 1 + (at % 12) as u8);
-    case(sort, &(0..rows).map(row).collect::<Vec<_>>())
+    let kinds = Kind::ALL.iter().cycle();
+    case(sort, (0..).zip(kinds).map(|(x, kind)| Row::new(*kind, [x, 0, 0])).take(rows))
 }
 
 /// Every call on a case, with buffers of the right lengths and, if the case is accepted, the fresh devices.
@@ -183,11 +181,7 @@ fn damage_state(input: &mut Input, row: usize) {
 
 /// Test 4 of the book at limits about its seventeen rounds and at the highest.
 fn limits() -> impl Iterator<Item = Asked> {
-    let floor = (1..=15).map(|x| Row::new([x, 0, 0], kind::SOLID));
-    let dust = (1..=15).map(|x| Row::new([x, 1, 0], kind::DUST));
-    let mut rows: Vec<_> = floor.chain(dust).chain([Row::new([0, 1, 0], kind::REDSTONE_BLOCK)]).collect();
-    rows.sort_by_key(|row| row.position);
-    let case = case("fifteen dust", &rows);
+    let case = Case::line("fifteen dust", 15);
     let limits = (0..=20).chain([127, 128, 129, 65_535, 65_536, u32::MAX - 1, u32::MAX]);
     limits.map(move |limit| {
         let input = Input::Settle { devices: vec![0; case.rows()], limit };
@@ -214,9 +208,9 @@ fn clock() -> impl Iterator<Item = Asked> {
 /// A state of each sort that some kind or no kind may have, on a block of each kind and delay.
 fn states() -> impl Iterator<Item = Asked> {
     let delays = [None, Some(0), Some(1), Some(2), Some(3), Some(4), Some(5), Some(255)];
-    let blocks = (1..=12).flat_map(move |kind| delays.map(|delay| (kind, delay)));
+    let blocks = Kind::ALL.iter().flat_map(move |kind| delays.map(|delay| (*kind, delay)));
     blocks.flat_map(|(kind, delay)| {
-        let case = case("state", &[Row { delay, ..Row::new([0; 3], kind) }]);
+        let case = case("state", [Row::new(kind, [0; 3]).with_delay(delay)]);
         row_states().into_iter().flat_map(move |state| {
             let state = state.to_vec();
             let inputs = [
@@ -251,20 +245,20 @@ fn row_states() -> Vec<[u8; STATE_BYTES]> {
 
 /// A repeater that is fed, with another or a comparator on each side of it, facing each way, on and off.
 fn locks() -> impl Iterator<Item = Asked> {
-    let kinds = [kind::REPEATER, kind::COMPARATOR].into_iter();
-    let devices =
-        kinds.flat_map(|kind| (0..=6).flat_map(move |facing| [1, 2].map(|powered| (kind, facing, powered))));
+    let facings = Facing::ALL.iter().copied().map(Some).chain([None]);
+    let states = facings.flat_map(|facing| [false, true].map(|powered| (facing, powered)));
+    let devices = [Kind::Repeater, Kind::Comparator].into_iter().flat_map(move |kind| {
+        let device =
+            move |(facing, powered)| Row::new(kind, [0; 3]).with_facing(facing).with_powered(powered);
+        states.clone().map(device)
+    });
     let places = (0..4).flat_map(|facing| HORIZONTAL.map(|side| (facing, side)));
     places.flat_map(move |(facing, side)| {
-        devices.clone().flat_map(move |(kind, device_facing, powered)| {
+        devices.clone().flat_map(move |device| {
             let feeder = HORIZONTAL[(facing + 2) % 4];
-            let mut rows = vec![
-                Row { facing: facing as u8 + 1, delay: Some(2), ..Row::new([0; 3], kind::REPEATER) },
-                Row { facing: device_facing, powered, ..Row::new(side, kind) },
-            ];
-            rows.extend((feeder != side).then(|| Row::new(feeder, kind::REDSTONE_BLOCK)));
-            rows.sort_by_key(|row| row.position);
-            each_call(case("lock", &rows))
+            let fed = Row::new(Kind::Repeater, [0; 3]).with_facing(Facing::ALL[facing]).with_delay(2);
+            let source = (feeder != side).then(|| Row::new(Kind::RedstoneBlock, feeder));
+            each_call(case("lock", [fed, device.with_position(side)].into_iter().chain(source)))
         })
     })
 }

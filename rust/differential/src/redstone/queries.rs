@@ -1,14 +1,13 @@
 //! The calls that both sides are asked to answer for a case.
 
 use original::electrical::DeviceOutputState;
-use original::sim::RedstoneTickSimulator;
+use redstone::{Kind, Row, STATE_BYTES};
 
-use super::{Call, Input, SETTLES, pack};
+use super::{Call, Input, SETTLES};
 use crate::generate::Case;
 use crate::oracle::{Oracle, pos};
 use crate::random::Random;
-use crate::refusals::STATE_BYTES;
-use crate::table::{Position, Row, kind};
+use crate::table::Position;
 
 /// From this many rows on a table is asked for less.
 pub const LARGE: usize = 100;
@@ -74,11 +73,11 @@ pub fn settle_at_every_limit(oracle: &Oracle) -> impl Iterator<Item = Call> {
 pub fn fresh_devices(oracle: &Oracle) -> Vec<u8> {
     let outputs = DeviceOutputState::initially_lit(oracle.world());
     let device = |row: &Row| {
-        let at = pos(row.position);
-        match row.kind {
-            kind::REPEATER => outputs.repeater_powered[&at].into(),
-            kind::TORCH => outputs.torch_lit[&at].into(),
-            kind::COMPARATOR => outputs.comparator_output[&at],
+        let at = pos(row.position());
+        match row.kind() {
+            Kind::Repeater => outputs.repeater_powered[&at].into(),
+            Kind::RedstoneTorch => outputs.torch_lit[&at].into(),
+            Kind::Comparator => outputs.comparator_output[&at],
             _ => 0,
         }
     };
@@ -87,20 +86,21 @@ pub fn fresh_devices(oracle: &Oracle) -> Vec<u8> {
 
 /// Any valid device column.
 pub fn any_devices(random: &mut Random, rows: &[Row]) -> Vec<u8> {
-    rows.iter().map(|row| any_device(random, row.kind)).collect()
+    rows.iter().map(|row| any_device(random, row.kind())).collect()
 }
 
-fn any_device(random: &mut Random, kind: u8) -> u8 {
+fn any_device(random: &mut Random, kind: Kind) -> u8 {
     match kind {
-        kind::REPEATER | kind::TORCH => random.byte_below(2),
-        kind::COMPARATOR => random.byte(),
+        Kind::Repeater | Kind::RedstoneTorch => random.byte_below(2),
+        Kind::Comparator => random.byte(),
         _ => 0,
     }
 }
 
 /// A state that a run comes to while switches are thrown: at its end they may stand otherwise than in the table.
 fn reached_state(random: &mut Random, oracle: &Oracle) -> Vec<u8> {
-    let mut simulator = RedstoneTickSimulator::new(oracle.world().clone()).expect(SETTLES);
+    let mut started = oracle.started();
+    let simulator = started.get_mut();
     let ticks = if oracle.rows.len() >= LARGE { 1 } else { random.pick(&[0, 1, 2, 4, 8, 35]) };
     for _ in 0..ticks {
         if random.percent(30) {
@@ -109,7 +109,7 @@ fn reached_state(random: &mut Random, oracle: &Oracle) -> Vec<u8> {
         }
         simulator.advance_tick().expect(SETTLES);
     }
-    pack(&oracle.rows, &simulator.parts())
+    oracle.packed(&started)
 }
 
 /// Any state that document 01 allows, whether a run comes to it or not.
@@ -119,18 +119,18 @@ fn any_state(random: &mut Random, rows: &[Row]) -> Vec<u8> {
 
 fn any_row_state(random: &mut Random, row: &Row) -> [u8; STATE_BYTES] {
     let mut state = [0; STATE_BYTES];
-    state[0] = any_device(random, row.kind);
-    match row.kind {
-        kind::REPEATER => {
-            let delay = row.delay.unwrap_or(1).clamp(1, 4);
+    state[0] = any_device(random, row.kind());
+    match row.kind() {
+        Kind::Repeater => {
+            let delay = row.delay().unwrap_or(1).clamp(1, 4);
             state[1] = random.byte_below(1 << delay) & !1 | state[0];
         }
-        kind::TORCH => {
+        Kind::RedstoneTorch => {
             let toggles = (random.bits() & random.bits()) as u32 >> 1;
             state[4..8].copy_from_slice(&toggles.to_le_bytes());
             state[8] = (toggles.count_ones() >= 8 || random.percent(20)).into();
         }
-        kind::LAMP => {
+        Kind::RedstoneLamp => {
             state[2] = random.byte_below(2);
             state[3] = random.byte_below(3) * state[2];
         }
@@ -154,7 +154,7 @@ pub fn any_position(random: &mut Random, oracle: &Oracle) -> Position {
     if oracle.rows.is_empty() || random.percent(15) {
         [(); 3].map(|()| random.pick(&[0, 1, i32::MIN, i32::MAX]))
     } else {
-        oracle.rows[random.below(oracle.rows.len())].position
+        oracle.rows[random.below(oracle.rows.len())].position()
     }
 }
 

@@ -2,16 +2,17 @@
 
 use std::cell::RefCell;
 
+use original::Profiled;
 use original::sim::{RedstoneTickSimulator, TickState};
+use redstone::STATE_BYTES;
 
 use super::queries::{LARGE, any_position};
-use super::{Buffers, Call, Input, SETTLES, STATE, TABLE, pack, settled, write_powered};
+use super::{Buffers, Call, Input, SETTLES, STATE, TABLE, settled, write_powered};
 use crate::compare::{Answer, Answers, Query};
 use crate::generate::Case;
 use crate::oracle::{Oracle, pos};
 use crate::probe::Probe;
 use crate::random::Random;
-use crate::refusals::STATE_BYTES;
 use crate::table::Position;
 
 #[derive(Clone, Copy, Debug)]
@@ -76,7 +77,7 @@ impl Now {
             Step::Ticks(ticks) => Input::Tick { state, tick: self.tick, ticks },
             Step::Switch { at, powered } => Input::Switch { state, at, powered },
         };
-        let mut answer = Probe(&self.case).answer(&Call { input, columns: [rows; 3] });
+        let answer = Probe(&self.case).answer(&Call { input, columns: [rows; 3] });
         self.case.table = answer.bytes(TABLE);
         self.state = answer.bytes(STATE);
         if let Step::Ticks(ticks) = step {
@@ -102,18 +103,17 @@ impl Answers<Step> for ProvedRun {
 /// A run of the original's simulator, never packed on the way.
 pub struct OriginalRun<'a> {
     oracle: &'a Oracle<'a>,
-    simulator: RefCell<RedstoneTickSimulator>,
+    simulator: RefCell<Profiled<RedstoneTickSimulator>>,
 }
 
 impl<'a> OriginalRun<'a> {
     pub fn new(oracle: &'a Oracle<'a>) -> Self {
-        let simulator = RedstoneTickSimulator::new(oracle.world().clone()).expect(SETTLES);
-        Self { oracle, simulator: RefCell::new(simulator) }
+        Self { oracle, simulator: RefCell::new(oracle.started()) }
     }
 
     fn step(&self, step: Step) -> TickState {
-        self.oracle.put_profile_in_force();
         let mut simulator = self.simulator.borrow_mut();
+        let simulator = simulator.get_mut();
         match step {
             Step::Fresh => simulator.snapshot(),
             Step::Ticks(ticks) => simulator.settle_ticks(ticks as usize).expect(SETTLES),
@@ -128,9 +128,9 @@ impl Answers<Step> for OriginalRun<'_> {
         let simulator = self.simulator.borrow();
         let Oracle { case, rows, .. } = self.oracle;
         let mut table = case.table.clone();
-        write_powered(&mut table, simulator.world());
+        write_powered(&mut table, simulator.get().world());
         let column = vec![0; rows.len()];
-        let state = pack(rows, &simulator.parts());
+        let state = self.oracle.packed(&simulator);
         let mut buffers = Buffers::new([&case.profile, &table, &state, &column, &column, &column]);
         let [_, _, _, columns @ ..] = buffers.entries();
         self.oracle.write_columns(&settled, columns);

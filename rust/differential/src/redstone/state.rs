@@ -5,10 +5,9 @@ use std::collections::VecDeque;
 use original::electrical::DeviceOutputState;
 use original::sim::Parts;
 use original::world::Pos;
+use redstone::{Kind, Row, STATE_BYTES};
 
 use crate::oracle::pos;
-use crate::refusals::STATE_BYTES;
-use crate::table::{Row, kind};
 
 /// The original counts ticks from a start, the packed state back from now. Any number of ticks at least as large as
 /// the farthest toggle kept serves as now.
@@ -24,11 +23,11 @@ pub fn device_outputs(rows: &[Row], devices: &[u8]) -> DeviceOutputState {
 }
 
 fn set_device(outputs: &mut DeviceOutputState, row: &Row, device: u8) {
-    let at = pos(row.position);
-    match row.kind {
-        kind::REPEATER => drop(outputs.repeater_powered.insert(at, device == 1)),
-        kind::TORCH => drop(outputs.torch_lit.insert(at, device == 1)),
-        kind::COMPARATOR => drop(outputs.comparator_output.insert(at, device)),
+    let at = pos(row.position());
+    match row.kind() {
+        Kind::Repeater => drop(outputs.repeater_powered.insert(at, device == 1)),
+        Kind::RedstoneTorch => drop(outputs.torch_lit.insert(at, device == 1)),
+        Kind::Comparator => drop(outputs.comparator_output.insert(at, device)),
         _ => {}
     }
 }
@@ -39,10 +38,10 @@ pub fn unpack(rows: &[Row], state: &[u8]) -> Parts {
     let mut outputs = DeviceOutputState::default();
     for (row, state) in rows.iter().zip(state.chunks_exact(STATE_BYTES)) {
         set_device(&mut outputs, row, state[0]);
-        match row.kind {
-            kind::REPEATER => unpack_queue(&mut parts, row, state),
-            kind::TORCH => unpack_toggles(&mut parts, pos(row.position), state),
-            kind::LAMP => unpack_lamp(&mut parts, pos(row.position), state),
+        match row.kind() {
+            Kind::Repeater => unpack_queue(&mut parts, row, state),
+            Kind::RedstoneTorch => unpack_toggles(&mut parts, pos(row.position()), state),
+            Kind::RedstoneLamp => unpack_lamp(&mut parts, pos(row.position()), state),
             _ => {}
         }
     }
@@ -53,9 +52,9 @@ pub fn unpack(rows: &[Row], state: &[u8]) -> Parts {
 }
 
 fn unpack_queue(parts: &mut Parts, row: &Row, state: &[u8]) {
-    let delay = row.delay.unwrap_or(1).clamp(1, 4);
+    let delay = row.delay().unwrap_or(1).clamp(1, 4);
     let queue = (0..delay).map(|bit| state[1] >> bit & 1 == 1).collect();
-    parts.repeater_queues.insert(pos(row.position), queue);
+    parts.repeater_queues.insert(pos(row.position()), queue);
 }
 
 fn unpack_toggles(parts: &mut Parts, at: Pos, state: &[u8]) {
@@ -83,15 +82,15 @@ pub fn pack(rows: &[Row], parts: &Parts) -> Vec<u8> {
 }
 
 fn pack_row(row: &Row, parts: &Parts) -> [u8; STATE_BYTES] {
-    let at = pos(row.position);
+    let at = pos(row.position());
     let mut state = [0; STATE_BYTES];
-    match row.kind {
-        kind::REPEATER => {
+    match row.kind() {
+        Kind::Repeater => {
             state[0] = parts.repeater_powered[&at].into();
             let queue = parts.repeater_queues[&at].iter().enumerate();
             state[1] = queue.map(|(bit, on)| u8::from(*on) << bit).sum();
         }
-        kind::TORCH => {
+        Kind::RedstoneTorch => {
             state[0] = parts.torch_lit[&at].into();
             let toggles = parts.torch_toggle_ticks.get(&at).into_iter().flatten();
             let ages = toggles.map(|tick| parts.tick - tick).filter(|age| *age <= FARTHEST_TOGGLE);
@@ -99,8 +98,8 @@ fn pack_row(row: &Row, parts: &Parts) -> [u8; STATE_BYTES] {
             state[4..8].copy_from_slice(&bits.to_le_bytes());
             state[8] = parts.torch_burnout_candidates.contains(&at).into();
         }
-        kind::COMPARATOR => state[0] = parts.comparator_output[&at],
-        kind::LAMP => {
+        Kind::Comparator => state[0] = parts.comparator_output[&at],
+        Kind::RedstoneLamp => {
             state[2] = parts.lamp_lit[&at].into();
             state[3] = parts.lamp_off_deadline.get(&at).map_or(0, |deadline| (deadline - parts.tick) as u8);
         }

@@ -45,7 +45,7 @@ pub const ALTERATIONS: [Alteration<WireQuery>; 7] = [
         function: "update_wire_shapes",
         what: "the first row's arm to the North differs",
         alter: |_, _, answer| {
-            if let Some(arm) = answer.buffers[0].entries().get_mut(24) {
+            if let Some(arm) = answer.buffers[0].entries.get_mut(24) {
                 *arm ^= 1;
             }
         },

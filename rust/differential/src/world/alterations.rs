@@ -1,8 +1,9 @@
 //! Wrong answers that the comparison must report.
 
+use redstone::ROW_BYTES;
+
 use super::{Name, WorldQuery};
 use crate::compare::Alteration;
-use crate::table::ROW_BYTES;
 
 pub const ALTERATIONS: [Alteration<WorldQuery>; 12] = [
     Alteration {
@@ -77,8 +78,8 @@ pub const ALTERATIONS: [Alteration<WorldQuery>; 12] = [
     },
     Alteration {
         function: "support_issues",
-        what: "the entry past the column is written",
-        alter: |_, _, answer| *answer.buffers[0].first_guard_after() = 0,
+        what: "the entry before the column is written",
+        alter: |_, _, answer| answer.buffers[0].outside.push((-1, 0)),
     },
     Alteration {
         function: "offset",

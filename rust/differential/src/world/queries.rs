@@ -1,11 +1,13 @@
 //! What both sides are asked about a case.
 
+use redstone::{FARTHEST, ROW_BYTES, Row};
+
 use super::{Name, WorldQuery};
 use crate::generate::Case;
 use crate::positions::around;
 use crate::random::Random;
 use crate::refusals;
-use crate::table::{self, FARTHEST, Position, ROW_BYTES, Row, moved};
+use crate::table::{self, Position, moved};
 
 /// Numbers that are no kind, among them ones whose low byte is.
 const NO_KINDS: [u32; 7] = [13, 14, 255, 256, 257, 268, u32::MAX];
@@ -20,7 +22,7 @@ pub fn queries(case: &Case) -> Vec<WorldQuery> {
     let mut random = Random::new(case.seed);
     let mut queries = support_queries(&mut random, case.table.len() / ROW_BYTES);
     if refusals::check(&case.profile, &case.table).is_ok() {
-        let rows = table::decode(&case.table);
+        let rows = table::rows(&case.table);
         queries.extend((0..rows.len()).map(WorldQuery::Traits));
         for at in positions(&mut random, &rows) {
             queries.extend([WorldQuery::Find(at), WorldQuery::KindAt(at)]);
@@ -44,7 +46,7 @@ fn support_queries(random: &mut Random, rows: usize) -> Vec<WorldQuery> {
 
 /// All rows' positions, the neighbours of some, and some positions at random.
 fn positions(random: &mut Random, rows: &[Row]) -> Vec<Position> {
-    let mut positions: Vec<_> = rows.iter().map(|row| row.position).collect();
+    let mut positions: Vec<_> = rows.iter().map(Row::position).collect();
     for at in around(random, rows, MOST_ROWS_AROUND) {
         positions.push(at);
         positions.extend(FACES.map(|step| moved(at, step)));

@@ -8,8 +8,8 @@ use std::io::{self, Write};
 
 use differential::generate::{self, Case};
 use differential::random::Random;
-use differential::table::ROW_BYTES;
 use record::Record;
+use redstone::ROW_BYTES;
 
 /// `vectors` lends columns for this many rows.
 const MOST_ROWS: usize = 64;

@@ -7,7 +7,8 @@ use differential::random::Random;
 use differential::redstone::{
     Call, Input, OriginalRun, SIGNAL, STATE, STRONG, Step, TABLE, WEAK, any_devices, fresh_devices,
 };
-use differential::table::{self, Position, Row, kind};
+use differential::table::{self, Position};
+use redstone::{Kind, Row};
 
 use super::record::Record;
 use super::{MOST_ROWS, small_cases};
@@ -31,7 +32,7 @@ const LEAST_CHANGES: usize = 3;
 const SHORT_RUNS: [usize; 2] = [20, 40];
 
 pub fn records(seed: u64, random: &mut Random) -> Vec<Record> {
-    let [short_line, long_line] = [line(2), line(15)];
+    let [short_line, long_line] = [2, 15].map(|dust| Case::line("line", dust));
     let mut records = Vec::new();
     for case in [&short_line, &long_line] {
         records.extend(settles(random, case, LIMITS.len() + 2));
@@ -64,9 +65,9 @@ fn settles(random: &mut Random, case: &Case, kept: usize) -> Vec<Record> {
         let mut limits = [&LIMITS[..], &[rounds, rounds - 1]].concat();
         random.keep(&mut limits, kept);
         for limit in limits {
-            let mut answer = settle(limit);
+            let answer = settle(limit);
             let record = Record::new(10).slice(&case.profile).slice(&case.table).slice(&devices);
-            records.push(columns(record, &mut answer).number(limit).number(number(&answer)));
+            records.push(columns(record, &answer).number(limit).number(number(&answer)));
         }
     }
     records
@@ -90,20 +91,20 @@ fn run(case: &Case, steps: &[Step]) -> Run {
     let (mut table, mut state, mut tick) = (case.table.clone(), Vec::new(), 0);
     let mut run = Run { records: Vec::new(), changes: 0 };
     for step in steps {
-        let mut answer = original.answer(step);
+        let answer = original.answer(step);
         let next = [answer.bytes(TABLE), answer.bytes(STATE)];
         let with = |operation| Record::new(operation).slice(&case.profile).slice(&table);
         let record = match *step {
-            Step::Fresh => columns(with(11).slice(&next[1]), &mut answer),
+            Step::Fresh => columns(with(11).slice(&next[1]), &answer),
             Step::Ticks(ticks) => {
-                let record = columns(with(12).slice(&state).slice(&next[1]), &mut answer);
+                let record = columns(with(12).slice(&state).slice(&next[1]), &answer);
                 let record = record.number(tick).number(ticks);
                 tick += ticks;
                 run.changes += usize::from(state != next[1]);
                 record
             }
             Step::Switch { at, powered } => {
-                let record = columns(with(13).slice(&next[0]).slice(&state), &mut answer);
+                let record = columns(with(13).slice(&next[0]).slice(&state), &answer);
                 record.position(at).number(powered.into())
             }
         };
@@ -114,7 +115,7 @@ fn run(case: &Case, steps: &[Step]) -> Run {
 }
 
 /// The signal, weak and strong columns.
-fn columns(record: Record, answer: &mut Answer) -> Record {
+fn columns(record: Record, answer: &Answer) -> Record {
     [SIGNAL, WEAK, STRONG].into_iter().fold(record, |record, column| record.slice(&answer.bytes(column)))
 }
 
@@ -145,24 +146,24 @@ fn short_steps(random: &mut Random, case: &Case) -> Vec<Step> {
 }
 
 fn is_switch(row: &Row) -> bool {
-    matches!(row.kind, kind::LEVER | kind::BUTTON | kind::PLATE)
+    matches!(row.kind(), Kind::Lever | Kind::Button | Kind::PressurePlate)
 }
 
 /// The position of a switch if there is one, else of any row.
 fn switch_position(random: &mut Random, case: &Case) -> Position {
-    let rows = table::decode(&case.table);
+    let rows = table::rows(&case.table);
     let mut switches: Vec<_> = rows.iter().filter(|row| is_switch(row)).collect();
     if switches.is_empty() {
         switches = rows.iter().collect();
     }
-    random.pick(&switches).position
+    random.pick(&switches).position()
 }
 
 /// A position beside a row that no row has.
 fn empty_position(random: &mut Random, case: &Case) -> Position {
-    let rows = table::decode(&case.table);
-    let mut at = rows[random.below(rows.len())].position;
-    while rows.iter().any(|row| row.position == at) {
+    let rows = table::rows(&case.table);
+    let mut at = rows[random.below(rows.len())].position();
+    while rows.iter().any(|row| row.position() == at) {
         at[1] += 1;
     }
     at
@@ -178,25 +179,14 @@ fn slow_cases(seed: u64) -> impl Iterator<Item = Case> {
 
 /// Runs of small tables with a switch, in which most calls with ticks change the state.
 fn lively_runs(seed: u64, random: &mut Random) -> impl Iterator<Item = Vec<Record>> {
-    let switched = |case: &Case| table::decode(&case.table).iter().any(is_switch);
+    let switched = |case: &Case| table::rows(&case.table).iter().any(is_switch);
     let runs =
         small_cases(seed, MOST_RUN_ROWS).filter(switched).map(|case| run(&case, &steps(random, &case)));
     runs.filter(|run| run.changes >= LEAST_CHANGES).map(|run| run.records)
 }
 
-fn bench(sort: &'static str, rows: &[Row]) -> Case {
-    Case { seed: 0, sort, profile: BENCH_PROFILE.to_vec(), table: table::encode(rows) }
-}
-
-/// Tests 3 and 4 of document 01: a redstone block and so many dusts in a line, each on a solid.
-fn line(dusts: i32) -> Case {
-    let column = |x| [Row::new([x, 0, 0], kind::SOLID), Row::new([x, 1, 0], kind::DUST)];
-    let source = Row::new([0, 1, 0], kind::REDSTONE_BLOCK);
-    bench("line", &[vec![source], (1..=dusts).flat_map(column).collect()].concat())
-}
-
 /// A lever on a lamp, as for test 10.
 fn lamp() -> Case {
-    let lever = Row { powered: 2, support_offset: Some([0, -1, 0]), ..Row::new([0, 1, 0], kind::LEVER) };
-    bench("lamp", &[Row::new([0, 0, 0], kind::LAMP), lever])
+    let lever = Row::new(Kind::Lever, [0, 1, 0]).with_powered(true).with_support([0, -1, 0]);
+    Case::new("lamp", BENCH_PROFILE, [Row::new(Kind::RedstoneLamp, [0, 0, 0]), lever])
 }

@@ -4,8 +4,9 @@ use differential::compare::{Answer, Answers};
 use differential::generate::{BENCH_PROFILE, Case};
 use differential::oracle::Oracle;
 use differential::random::Random;
-use differential::table::{self, FARTHEST, Position, ROW_BYTES, Row};
+use differential::table::{self, Position};
 use differential::world::{self, Name, WorldQuery};
+use redstone::{FARTHEST, Kind, Row, Shape};
 
 use super::record::Record;
 use super::{MOST_ROWS, small_cases};
@@ -42,8 +43,7 @@ fn number<N: TryFrom<i128>>(case: &Case, query: WorldQuery) -> N {
 }
 
 fn traits(case: &Case) -> Record {
-    let rows = 0..case.table.len() / ROW_BYTES;
-    let numbers = rows.map(|row| number::<u16>(case, WorldQuery::Traits(row)));
+    let numbers = (0..case.rows()).map(|row| number::<u16>(case, WorldQuery::Traits(row)));
     let numbers: Vec<_> = numbers.flat_map(u16::to_le_bytes).collect();
     Record::new(1).slice(&case.profile).slice(&case.table).slice(&numbers)
 }
@@ -60,10 +60,9 @@ fn look_up(case: &Case, at: Position) -> Record {
 }
 
 fn support_issues(case: &Case) -> Record {
-    let entries = case.table.len() / ROW_BYTES;
-    let mut answer = ask(case, WorldQuery::SupportIssues { entries });
+    let answer = ask(case, WorldQuery::SupportIssues { entries: case.rows() });
     let count = u32::try_from(answer.number).expect("an answer of the layout's width");
-    let rows = &answer.buffers[0].entries()[..count as usize];
+    let rows = &answer.buffers[0].entries[..count as usize];
     let list: Vec<_> = rows.iter().flat_map(|row| row.to_le_bytes()).collect();
     Record::new(4).slice(&case.profile).slice(&case.table).slice(&list).bytes(&count.to_le_bytes())
 }
@@ -78,29 +77,30 @@ fn offset(from: Position, by: Position) -> Record {
     Record::new(6).position(from).position(by).position(sum)
 }
 
-fn blocks(sort: &'static str, profile: [u8; 13], blocks: impl Iterator<Item = (u8, u8)>) -> Case {
-    let row = |(at, (kind, shape))| Row { shape, ..Row::new([at, 0, 0], kind) };
-    let rows: Vec<_> = (0..).zip(blocks).map(row).collect();
-    Case { seed: 0, sort, profile: profile.to_vec(), table: table::encode(&rows) }
+/// Blocks side by side.
+fn blocks(sort: &'static str, profile: [u8; 13], blocks: impl Iterator<Item = (Kind, Shape)>) -> Case {
+    let row = |(x, (kind, shape))| Row::new(kind, [x, 0, 0]).with_shape(shape);
+    Case::new(sort, profile, (0..).zip(blocks).map(row))
 }
 
 fn no_rows() -> Case {
-    blocks("no rows", BENCH_PROFILE, std::iter::empty())
+    Case::new("no rows", BENCH_PROFILE, [])
 }
 
 /// Every kind in every shape, under the bench profile: half of the kinds to a table.
 fn every_block() -> impl Iterator<Item = Case> {
-    let shapes = |kind| (0..=6).map(move |shape| (kind, shape));
-    let half = move |kinds: std::ops::RangeInclusive<u8>| {
-        blocks("every kind and shape", BENCH_PROFILE, kinds.flat_map(shapes))
-    };
-    [half(1..=6), half(7..=12)].into_iter()
+    let shapes = |kind: &'static Kind| Shape::ALL.iter().map(|shape| (*kind, *shape));
+    let half =
+        |kinds: &'static [Kind]| blocks("every kind and shape", BENCH_PROFILE, kinds.iter().flat_map(shapes));
+    let (first, second) = Kind::ALL.split_at(Kind::ALL.len() / 2);
+    [half(first), half(second)].into_iter()
 }
 
 /// Every kind in the plain shape, with every byte that a profile may have for it.
 fn every_plain_block() -> Vec<Case> {
     let profile = |byte| std::array::from_fn(|kind| if kind == 0 { 0 } else { byte });
-    let case = |byte| blocks("every kind", profile(byte), (1..=12).map(|kind| (kind, 0)));
+    let plain = || Kind::ALL.iter().map(|kind| (*kind, Shape::Plain));
+    let case = |byte| blocks("every kind", profile(byte), plain());
     (0..=31).map(case).collect()
 }
 
@@ -143,7 +143,7 @@ fn any_names(case: &Case) -> Vec<Name> {
 }
 
 fn row_positions(case: &Case) -> Vec<Position> {
-    table::decode(&case.table).iter().map(|row| row.position).collect()
+    table::rows(&case.table).iter().map(Row::position).collect()
 }
 
 /// The positions of some rows, and some of the positions that the case asks about.

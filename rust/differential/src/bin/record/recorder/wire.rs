@@ -5,8 +5,9 @@ use std::collections::BTreeMap;
 use differential::compare::{Answer, Answers};
 use differential::generate::{BENCH_PROFILE, Case};
 use differential::oracle::Oracle;
-use differential::table::{self, Position, Row, kind};
+use differential::table::{self, Position};
 use differential::wire::{self, WireQuery};
+use redstone::{Kind, Row, Shape};
 
 use super::record::Record;
 use super::small_cases;
@@ -84,7 +85,7 @@ fn transfer(case: &Case, source: Position, sink: Position) -> (u8, Record) {
 
 /// The redrawn table, if it is another than before.
 fn redraw(case: &Case) -> Option<Record> {
-    let mut answer = ask(case, &WireQuery::Redraw);
+    let answer = ask(case, &WireQuery::Redraw);
     let redrawn = answer.bytes(0);
     let code = u32::try_from(answer.number).expect("an answer of the layout's width");
     let record = Record::new(9).slice(&case.profile).slice(&case.table).slice(&redrawn).number(code);
@@ -92,21 +93,20 @@ fn redraw(case: &Case) -> Option<Record> {
 }
 
 fn dusts(case: &Case) -> Vec<Position> {
-    let rows = table::decode(&case.table);
-    rows.iter().filter(|row| row.kind == kind::DUST).map(|row| row.position).collect()
+    let rows = table::rows(&case.table);
+    rows.iter().filter(|row| row.kind() == Kind::RedstoneWire).map(Row::position).collect()
 }
 
 /// Test 6 of document 01: a dust, a block beside it, a top slab or plain, and a dust on that; upward and downward.
 fn rises() -> impl Iterator<Item = Record> {
     let [below, above] = [[0, 1, 0], [1, 2, 0]];
-    [2, 0].into_iter().flat_map(move |shape| {
+    [Shape::TopSlab, Shape::Plain].into_iter().flat_map(move |shape| {
         let rows = [
-            Row::new(below, kind::DUST),
-            Row { shape, ..Row::new([1, 1, 0], kind::SOLID) },
-            Row::new(above, kind::DUST),
+            Row::new(Kind::RedstoneWire, below),
+            Row::new(Kind::Solid, [1, 1, 0]).with_shape(shape),
+            Row::new(Kind::RedstoneWire, above),
         ];
-        let profile = BENCH_PROFILE.to_vec();
-        let case = Case { seed: 0, sort: "rise", profile, table: table::encode(&rows) };
+        let case = Case::new("rise", BENCH_PROFILE, rows);
         [transfer(&case, below, above).1, transfer(&case, above, below).1]
     })
 }

@@ -1,0 +1,76 @@
+//! A write outside of a lent buffer is noticed, be its entries bytes or of 16 bits.
+
+use std::fmt::Debug;
+
+use differential::generate::{BENCH_PROFILE, Case};
+use differential::lent::{Entry, GUARDS, Lent};
+use differential::probe::probe_support_issues;
+use redstone::{Columns, Kind, Row};
+
+/// Writes each of these values for an entry to every place in and around buffers of some lengths.
+fn assert_each_write_is_noticed<T: Entry + Debug>(others: impl Fn(T) -> Vec<T>) {
+    for (entries, place) in
+        [0, 1, 5].into_iter().flat_map(|entries| places(entries).map(move |at| (entries, at)))
+    {
+        let guard = Lent::<T>::untouched(entries).with_guards()[place];
+        for other in others(guard) {
+            let mut lent = Lent::untouched(entries);
+            lent.with_guards()[place] = other;
+            let returned = lent.returned();
+            match place.checked_sub(GUARDS).filter(|at| *at < entries) {
+                Some(at) => assert_eq!((returned.entries[at], returned.outside), (other.into(), vec![])),
+                None => assert_eq!(returned.outside, [(place as isize - GUARDS as isize, other.into())]),
+            }
+        }
+    }
+}
+
+fn places(entries: usize) -> std::ops::Range<usize> {
+    0..entries + 2 * GUARDS
+}
+
+#[test]
+fn a_write_of_any_bit_is_noticed() {
+    assert_each_write_is_noticed(|entry: u8| (0..8).map(|bit| entry ^ 1 << bit).collect());
+    assert_each_write_is_noticed(|entry: u16| (0..16).map(|bit| entry ^ 1 << bit).collect());
+}
+
+/// The proved settling, over a signal column that begins so many entries late or ends so many early.
+fn signal_outside(late: usize, early: usize) -> Vec<(isize, u16)> {
+    let case = Case::line("line", 2);
+    let rows = case.rows();
+    let mut signal = Lent::untouched(rows - late - early);
+    let [mut weak, mut strong] = [(); 2].map(|()| Lent::untouched(rows));
+    let columns = Columns {
+        signal: &mut signal.with_guards()[GUARDS - late..][..rows],
+        weak: weak.entries(),
+        strong: strong.entries(),
+    };
+    redstone::settle(&case.profile, &case.table, &vec![0; rows], 128, columns).expect("the line settles");
+    assert!([weak, strong].into_iter().all(|column| column.returned().outside.is_empty()));
+    signal.returned().outside
+}
+
+#[test]
+fn a_call_that_writes_a_byte_outside_is_noticed() {
+    assert_eq!(signal_outside(0, 0), []);
+    assert_eq!(signal_outside(1, 0), [(-1, 15)]);
+    assert_eq!(signal_outside(0, 1), [(4, 14)]);
+}
+
+/// The same of the support list of three dust in the air.
+fn listed_outside(late: usize, early: usize) -> Vec<(isize, u16)> {
+    let dust = [0, 1, 2].map(|x| Row::new(Kind::RedstoneWire, [x, 0, 0]));
+    let case = Case::new("dust in the air", BENCH_PROFILE, dust);
+    let mut column = Lent::untouched(3 - late - early);
+    let lent = &mut column.with_guards()[GUARDS - late..][..3];
+    assert_eq!(probe_support_issues(&case.profile, &case.table, lent), 3);
+    column.returned().outside
+}
+
+#[test]
+fn a_call_that_writes_16_bits_outside_is_noticed() {
+    assert_eq!(listed_outside(0, 0), []);
+    assert_eq!(listed_outside(1, 0), [(-1, 0)]);
+    assert_eq!(listed_outside(0, 2), [(1, 1), (2, 2)]);
+}
