@@ -1,4 +1,4 @@
--- Calls of settle on a table, each with every byte that it leaves: what demand 3 says of them, and what their answers tell.
+-- Calls on a table, each with every byte that it leaves: what demand 3 says of settle, and what the answers of all calls tell.
 -- Assumes nothing.
 use mathlib.Core.Path.{_≡_, refl}
 use mathlib.Core.List.{[], _∷_, _++_}
