@@ -1,4 +1,4 @@
--- Whether the editor's four calls answer and write as the original did, of a record that has the parts of its operation.
+-- Whether the editor's calls that settle answer and write as the original did, of a record that has the parts of its operation.
 -- The definitions of settle, fresh, tick and switch say what a call answers and what it writes.
 -- Assumes nothing.
 use mathlib.Core.Bool.{Bool, _&&_}

@@ -1,4 +1,4 @@
-// Whether the editor's four calls answer and write as the original did. Each function takes a record of its operation, makes the call that
+// Whether the editor's calls that settle answer and write as the original did. Each function takes a record of its operation, makes the call that
 // it tells of, and compares the answer and every byte of every buffer with the recorded ones.
 use columns::same;
 use records::MOST_BYTES;
