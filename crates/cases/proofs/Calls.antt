@@ -17,6 +17,7 @@ use Rattle.refusals.specs.Answers.{decode}
 use Rattle.refusals.proofs.Tells.{told-refused}
 use Rattle.supports.specs.Supports.{supportIssues, Listed}
 use Rattle.supports.proofs.Answers.{listed-tells}
+use Rattle.switching.specs.Switch.{switched}
 use Rattle.redraw.specs.Redraw.{Redraws}
 use Rattle.redraw.proofs.Answers.{redraw-tells}
 use Rattle.electrical.specs.Emitted.{emitted}
@@ -25,7 +26,7 @@ use Rattle.electrical.specs.Answer.{checkSettle, SettledTo, Unchanged}
 use Rattle.electrical.specs.Join.{largerOf, Call, JoinedCalls}
 use Rattle.electrical.proofs.Demand.{settle-tells, written-join, never-answers-8, settles-from-17, others-break}
 use Rattle.updates.specs.State.{devicesOf, freshDevices, freshState}
-use Rattle.updates.specs.Calls.{checkTick, switched, Fresh, Ticks, Switches}
+use Rattle.updates.specs.Calls.{checkTick, Fresh, Ticks, Switches}
 use Rattle.updates.proofs.Answers.{fresh-tells, ticks-tell, switch-tells}
 use Rattle.cases.proofs.Computing.{computing}
 use Rattle.cases.proofs.Build.{block, facing}

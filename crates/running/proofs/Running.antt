@@ -11,8 +11,7 @@ use Rattle.electrical.specs.Emitted.{IsValid}
 use Rattle.electrical.specs.Answer.{roundsOf, settled, checkCall}
 use Rattle.electrical.proofs.Demand.{rounds-range}
 use Rattle.rounds.specs.declared.Outcome.{Outcome}
-use Rattle.rounds.specs.declared.Outcome.the-variants as Outcome
-use Rattle.rounds.specs.Outcome.{outcomeOf, Solves}
+use Rattle.rounds.specs.Outcome.{settledIn, outcomeOf, Solves}
 use Rattle.levels.specs.Numbers.{numbers}
 use Rattle.updates.specs.State.{devicesOf, IsValidState}
 use Rattle.updates.specs.Tick.{withDevices, withLamps, settledOf, setDevices, setLamps, tick, ticks}
@@ -32,7 +31,7 @@ call-accepted p t d signal weak strong a v r =
 -- "so settle with a limit from 17 up never calls it unsettled"
 pub solved : (p t : Bytes) (d signal weak strong signal′ weak′ strong′ : Column) {r : Outcome}
     → Solves (roundsOf p t d) (settled p t d) 17 signal weak strong signal′ weak′ strong′ r
-    → (r ≡ Outcome.Settled (roundsOf p t d)) × HoldsSettled p t d signal′ weak′ strong′
+    → (r ≡ settledIn (roundsOf p t d)) × HoldsSettled p t d signal′ weak′ strong′
 unfolding outcomeOf
 solved p t d signal weak strong signal′ weak′ strong′ s =
     let e = le-leb (roundsOf p t d) 17 (rounds-range p t d .1) in (

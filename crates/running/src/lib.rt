@@ -32,7 +32,7 @@ fn settle(
 {
     let outcome = solver::solve(profile, table, devices, Rounds::MAX, signal, weak, strong);
     match outcome {
-        Outcome::Settled { rounds } => rounds,
+        Outcome::Settled { rounds } => rounds.count,
         Outcome::Unsettled => 0,
     }
 }

@@ -2,6 +2,7 @@
 use mathlib.Core.Path.{_≡_}
 use Prim.Native.Nat.{ℕ}
 use native.Mathlib.Omega.{arith}
+use Rattle.rounds.proofs.Rounds.{settled-count}
 use Rattle.running.proofs.Running.{call-accepted, solved}
 use borrow.Author.Needs.{needs}
 use Rattle.running.proofs.settle.Statement.{statement}
@@ -26,7 +27,9 @@ same-length-3 : tie.Need-same-length-3
 same-length-3 c = search needs
 
 returns : tie.Need-returns
-returns c = let s = solved _ _ _ _ _ _ _ _ _ (c .before .before .before .before .before .before .before .before .before .solve .ensures) in (cc (s .0), s .1)
+returns c =
+    let s = solved _ _ _ _ _ _ _ _ _ (c .before .before .before .before .before .before .before .before .before .solve .ensures) in
+    (settled-count (s .0) (c .before .outcome .given .1), s .1)
 
 same-length-4 : tie.Need-same-length-4
 same-length-4 c = search needs
