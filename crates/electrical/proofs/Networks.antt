@@ -12,14 +12,14 @@ use Rattle.columns.specs.Column.{Bytes}
 use Rattle.columns.proofs.Truth.{or-false, and-false-left, and-false-right}
 use Rattle.network.specs.Compare.{PowerOnMap}
 use Rattle.blocks.specs.Kind.{isDust}
-use Rattle.places.specs.Places.{North, East, South, West, isHorizontal, beside, below}
+use Rattle.places.specs.Places.{North, East, South, West, isHorizontal}
 use Rattle.world.specs.Rows.{rows, posOf, kindOf, supportOf}
 use Rattle.world.specs.Traits.{traits, conducts}
 use Rattle.refusals.specs.Accepted.{Table}
 use Rattle.connectivity.specs.Ports.{outputOf}
 use Rattle.wire.specs.Transfer.{transmitsBy}
 use Rattle.wire.proofs.Same.{SameRow, same-transmits}
-use Rattle.wire.proofs.Alike.{Alike, same-rows, same-kind, same-facing, same-place, same-traits, same-traits-at}
+use Rattle.wire.proofs.Alike.{Alike, same-rows, same-kind, same-facing, same-place, same-traits, same-around}
 use Rattle.electrical.specs.Edges.{outputsTo, isSupportOf, isCharged, feeds, emittedToStrong, strongToWeak, armTo, alongArm, touches, dustToWeakBy, emittedToDustBy, strongToDustBy, networkBy}
 
 pub power-on-map : (arm : ℕ → ℕ → ℕ) (p t : Bytes) → PowerOnMap (networkBy arm p t)
@@ -91,9 +91,7 @@ module _ {a b : ℕ → ℕ → ℕ} {t u : Bytes} (s : Alike t u) (supports : (
         rw (same-kind s i) (and-same (isDust (kindOf u i)) (λ d. rw (same-feeds j i, same-traits s p j, same-touches d)))
 
     same-transmitsBy : transmitsBy a p t j i ≡ transmitsBy b p u j i
-    same-transmitsBy =
-        same-transmits (same-row j) (same-row i) p
-        (record { side = λ f _. same-traits-at s p (beside (posOf u j) f); under = same-traits-at s p (below (posOf u j)) })
+    same-transmitsBy = same-transmits (same-row j) (same-row i) p (same-around s p (posOf u j))
 
   pub same-network : networkBy a p t ≡ networkBy b p u
   unfolding networkBy
