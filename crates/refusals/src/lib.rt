@@ -89,7 +89,6 @@ pub fn check_input(profile: &[u8], table: &[u8]) -> Checked
     Checked::Refused { number: 1, row: 0 }
 }
 
-
 // The number that a call answers: 65,536 times the refusal's number plus the row, or the result of a call that is not refused.
 pub fn answer(checked: Checked, done: u32) -> u32
     ensures { λ r. ⌜ r ≡ answerOf checked done ⌝ }

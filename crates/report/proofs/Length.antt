@@ -30,7 +30,7 @@ use Rattle.refusals.specs.Check.{refuseUnless, refuseAt, isBad, isMisplaced, ch
 use Rattle.refusals.proofs.Accepted.{accepted-input, in-range}
 use Rattle.electrical.specs.Answer.{roundsOf, settled}
 use Rattle.electrical.proofs.Demand.{rounds-range, settled-bounded}
-use Rattle.states.specs.Fresh.{freshDevice}
+use Rattle.fresh.specs.Fresh.{freshDevice}
 use Rattle.updates.specs.State.{freshDevices}
 use Rattle.report.specs.Text.{ascii, signedText, rowOf, profileOf, tableOf, lineOf, rowText, refusalText, textOf, settledText, runText, checkRun, settleText, room}
 use Rattle.report.proofs.Digits.{decimal-few}
