@@ -21,7 +21,7 @@ use Rattle.electrical.specs.Emitted.{goodDevice, checkDevices, switchLevel, emi
 use Rattle.electrical.specs.Edges.{outputsTo, isSupportOf, isCharged, emittedToStrong, strongToWeak, armTo, alongArm, touches, feeds, dustToWeakBy, emittedToDustBy, strongToDustBy, networkOf}
 use Rattle.electrical.specs.Answer.{roundsOf, settled, checkCall, checkSettle}
 use Rattle.states.specs.Row.{delayOf, bitsSet, isCandidate, goodQueue, goodLamp, goodTorch, goodState}
-use Rattle.states.specs.Fresh.{freshDevice, freshQueue, freshLamp, freshRow}
+use Rattle.fresh.specs.Fresh.{freshDevice, freshQueue, freshLamp, freshRow}
 use Rattle.repeater.specs.Step.{repeaterInputLevel, isRequested, locksFrom, isLocked, nextQueue, repeaterRow}
 use Rattle.torch.specs.Step.{torchSupportIsPowered, nextToggles, nextCandidate, torchRow}
 use Rattle.comparator.specs.Step.{compared, nextComparator}

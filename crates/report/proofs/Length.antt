@@ -25,7 +25,7 @@ use Rattle.refusals.specs.Check.{refuseUnless, refuseAt, isBad, isMisplaced, ch
 use Rattle.refusals.proofs.Accepted.{accepted-input, in-range}
 use Rattle.electrical.specs.Answer.{roundsOf, settled}
 use Rattle.electrical.proofs.Demand.{rounds-range, settled-bounded}
-use Rattle.states.specs.Fresh.{freshDevice}
+use Rattle.fresh.specs.Fresh.{freshDevice}
 use Rattle.updates.specs.State.{freshDevices}
 use Rattle.text.specs.Text.{ascii}
 use Rattle.text.proofs.Lengths.{line-few, concatRows-few}

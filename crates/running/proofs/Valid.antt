@@ -15,9 +15,9 @@ use Rattle.electrical.specs.Emitted.{IsValid}
 use Rattle.electrical.specs.Answer.{settled}
 use Rattle.electrical.proofs.Devices.{devices-valid}
 use Rattle.states.specs.Row.{deviceOf, goodState}
-use Rattle.states.specs.Fresh.{freshDevice, freshRow}
+use Rattle.fresh.specs.Fresh.{freshDevice, freshRow}
 use Rattle.states.proofs.Parts.{parts, whole}
-use Rattle.states.proofs.FreshRows.{length-fresh, fresh-device, fresh-good}
+use Rattle.fresh.proofs.FreshRows.{length-fresh, fresh-device, fresh-good}
 use Rattle.steps.proofs.Valid.{device-good, lamp-good}
 use Rattle.updates.specs.State.{sixteen, devicesOf, isBadState, checkState, IsValidState, freshDevices, freshState}
 use Rattle.updates.specs.Tick.{numbersOf, settledOf, setDevices, tick, ticks}

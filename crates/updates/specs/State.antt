@@ -12,7 +12,7 @@ use Rattle.refusals.specs.declared.Checked.the-variants.{Accepted}
 use Rattle.refusals.specs.Check.{checkValues}
 use Rattle.electrical.specs.Answer.{settled}
 use Rattle.states.specs.Row.{deviceOf, goodState}
-use Rattle.states.specs.Fresh.{freshDevice, freshRow}
+use Rattle.fresh.specs.Fresh.{freshDevice, freshRow}
 
 -- the sixteen bytes of row i
 abbrev pub sixteen : Bytes → ℕ → Bytes

@@ -1,9 +1,9 @@
 // Loops over the rows of a state. Each row's sixteen bytes are lent by themselves.
 use columns::byte_at;
 use devices::device_step;
+use fresh::fresh_device;
+use fresh::fresh_step;
 use lamp::lamp_step;
-use states::fresh::fresh_device;
-use states::fresh::fresh_step;
 use world::row::rows;
 ghost use mathlib.Core.Path.{_≡_};
 ghost use Prim.Native.Nat.{_*_};
@@ -11,7 +11,7 @@ ghost use lib.ListN.{length};
 ghost use Rattle.columns.specs.Column.{concatRows};
 ghost use Rattle.world.specs.Rows.{rows};
 ghost use Rattle.levels.specs.Numbers.{numbers};
-ghost use Rattle.states.specs.Fresh.{freshRow};
+ghost use Rattle.fresh.specs.Fresh.{freshRow};
 ghost use Rattle.updates.specs.State.{devicesOf, freshDevices};
 ghost use Rattle.updates.specs.Tick.{withDevices, withLamps};
 

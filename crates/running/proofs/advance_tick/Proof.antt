@@ -7,6 +7,10 @@ use borrow.Author.Needs.{needs}
 use Rattle.running.proofs.advance_tick.Statement.{statement}
 use Rattle.running.proofs.advance_tick.Tie as tie
 
+-- where the devices are set, from the settling that follows it
+abbrev devices-set : (c : tie.After-settle-state) → tie.After-set-devices
+devices-set c = c .before .before .before .before .before .before .before .before
+
 -- where the devices are set
 module _ (c : tie.After-set-devices) where
   abbrev start : tie.Start
@@ -16,7 +20,7 @@ module _ (c : tie.After-set-devices) where
   set = c .set-devices .ensures ∙ next-devices (start .pre .1 .1)
 
 set-devices-requires : tie.Need-set-devices-requires
-set-devices-requires c κs = valid-state _ _ (c .before .before .before .before .before .before .before .before .before .before .before .before .pre .0 .1) .sized
+set-devices-requires c κs = let s = c .before .before .before .before .before .before .before .before .before .before .before .before in valid-state _ _ (s .pre .0 .1) .sized
 
 settle-state-requires : tie.Need-settle-state-requires
 settle-state-requires c κs =
@@ -25,7 +29,10 @@ settle-state-requires c κs =
     (ready-next _ _ _ _ (set d) (s .pre .0 .0) (s .pre .0 .1), s .pre .1 .0)
 
 set-lamps-requires : tie.Need-set-lamps-requires
-set-lamps-requires c κs = let d = c .before .before .before .before .before .before .before .before .before .before .before .before .before .before .before .before .before .before .before in let s = start d in ready-next _ _ _ _ (set d) (s .pre .0 .0) (s .pre .0 .1) .long
+set-lamps-requires c κs =
+    let d = devices-set (c .before .before .before .before .before .before .before .before .before .before .before) in
+    let s = start d in
+    ready-next _ _ _ _ (set d) (s .pre .0 .0) (s .pre .0 .1) .long
 
 same-length : tie.Need-same-length
 same-length c = search needs
@@ -44,9 +51,11 @@ same-length-5 c = search needs
 
 returns : tie.Need-returns
 returns c =
-    let d = c .before .before .before .before .before .before .before .before .before .before .before .before .before .before .before .before .before .before .before .before .before .before in
-    let done = c .before .before .before .before .before .before .before .before .before .before .before .before .before .before .settle-state .ensures in
-    let k = ticked (start d .pre .0 .1) (set d) (done .1) (done .0) (c .before .before .set-lamps .ensures) in
+    let last = c .before .before in
+    let settled = last .before .before .before .before .before .before .before .before .before .before .before .before in
+    let d = devices-set settled in
+    let done = settled .settle-state .ensures in
+    let k = ticked (start d .pre .0 .1) (set d) (done .1) (done .0) (last .set-lamps .ensures) in
     (k .state, (k .rounds, k .columns))
 
 pub advance-tick-spec : {M : Type 1} → statement M

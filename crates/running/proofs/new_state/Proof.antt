@@ -12,8 +12,9 @@ fill-fresh-devices-requires c κs = c .before .before .before .before .before .b
 
 settle-requires : tie.Need-settle-requires
 settle-requires c κs =
-    let s = c .before .before .before .before .before .before .before .before .before .before .before .before .before .before .before in
-    let filled = c .before .before .before .before .before .before .fill-fresh-devices in
+    let after = c .before .before .before .before .before .before in
+    let s = after .before .before .before .before .before .before .before .before .before in
+    let filled = after .fill-fresh-devices in
     (s .pre .0, rw (filled .ensures) (fresh-devices-valid _), lengths-kept (s .pre .2) (filled .kept .1 .0) refl refl refl)
 
 fill-fresh-requires : tie.Need-fill-fresh-requires
@@ -37,10 +38,12 @@ same-length-5 c = search needs
 returns : tie.Need-returns
 unfolding freshState
 returns c =
-    let filled = c .before .before .before .before .before .before .before .before .before .before .before .before .before .before .before .before .before .before .before .fill-fresh-devices .ensures in
-    let done = c .before .before .before .before .before .before .before .before .before .before .before .before .settle .ensures in
+    let last = c .before .before in
+    let after = last .before .before .before .before .before .before .before .before .before .before in
+    let filled = after .before .before .before .before .before .before .before .fill-fresh-devices .ensures in
+    let done = after .settle .ensures in
     let holds = rw filled at (done .1) in
-    (rw (holds .weaks, holds .strongs) at (c .before .before .fill-fresh .ensures), (rw filled at (done .0), holds))
+    (rw (holds .weaks, holds .strongs) at (last .fill-fresh .ensures), (rw filled at (done .0), holds))
 
 pub new-state-spec : {M : Type 1} → statement M
 new-state-spec =

@@ -10,8 +10,9 @@ fill-devices-requires c κs = let s = c .before .before .before .before .before 
 
 settle-requires : tie.Need-settle-requires
 settle-requires c κs =
-    let s = c .before .before .before .before .before .before .before .before .before .before .before .before .before .before .before in
-    let filled = c .before .before .before .before .before .before .fill-devices in
+    let after = c .before .before .before .before .before .before in
+    let s = after .before .before .before .before .before .before .before .before .before in
+    let filled = after .fill-devices in
     (s .pre .0 .accepted, rw (filled .ensures) (s .pre .0 .valid), lengths-kept (s .pre .1) (filled .kept .1 .1 .0) refl refl refl)
 
 same-length : tie.Need-same-length
@@ -28,8 +29,9 @@ same-length-4 c = search needs
 
 returns : tie.Need-returns
 returns c =
-    let filled = c .before .before .before .before .before .before .before .before .before .before .before .before .before .fill-devices .ensures in
-    let done = c .before .before .before .before .before .before .settle .ensures in
+    let after = c .before .before .before .before .before .before in
+    let filled = after .before .before .before .before .before .before .before .fill-devices .ensures in
+    let done = after .settle .ensures in
     (rw filled at (done .0), settles filled (done .1))
 
 pub settle-state-spec : {M : Type 1} → statement M

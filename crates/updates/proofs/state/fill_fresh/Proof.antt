@@ -2,7 +2,7 @@
 use borrow.Author.Needs.{needs}
 use Prim.Native.Nat.{_-_}
 use native.Mathlib.Omega.{arith}
-use Rattle.states.specs.Fresh.{freshRow}
+use Rattle.fresh.specs.Fresh.{freshRow}
 use Rattle.updates.proofs.Turns.{Turns, turns-all, turning}
 use Rattle.updates.proofs.state.fill_fresh.Statement.{statement}
 use Rattle.updates.proofs.state.fill_fresh.Tie as tie

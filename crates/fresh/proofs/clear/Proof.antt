@@ -1,11 +1,11 @@
--- `states::fresh::clear` meets its contract. The loop's invariant: the bytes passed are 0. Assumes nothing.
+-- `fresh::clear` meets its contract. The loop's invariant: the bytes passed are 0. Assumes nothing.
 use mathlib.Core.Path.{refl}
 use Prim.Native.Nat.{_≤_, _-_}
 use native.Mathlib.Omega.{arith}
 use Rattle.columns.specs.Column.{tabulateFrom}
 use Rattle.columns.proofs.Columns.{Filled, filled-none, filled-more, filled-all}
-use Rattle.states.proofs.fresh.clear.Statement.{statement}
-use Rattle.states.proofs.fresh.clear.Tie as tie
+use Rattle.fresh.proofs.clear.Statement.{statement}
+use Rattle.fresh.proofs.clear.Tie as tie
 
 abbrev Inv-loop : tie.InvT-loop
 Inv-loop sixteen₀ k₀ sixteen k = (k ≤ 16) × Filled (λ _. 0) 16 k sixteen

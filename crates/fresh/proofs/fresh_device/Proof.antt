@@ -1,12 +1,12 @@
--- `states::fresh::fresh_device` meets its contract. Assumes nothing.
+-- `fresh::fresh_device` meets its contract. Assumes nothing.
 use mathlib.Core.Path.{_≡_, refl}
 use mathlib.Core.Bool.{Bool, true, false, cond, not}
 use Prim.Native.Nat.{ℕ}
 use borrow.Author.Tests.{ne-eqb}
-use Rattle.states.specs.Fresh.{freshDevice}
+use Rattle.fresh.specs.Fresh.{freshDevice}
 use borrow.Author.Needs.{needs}
-use Rattle.states.proofs.fresh.fresh_device.Statement.{statement}
-use Rattle.states.proofs.fresh.fresh_device.Tie as tie
+use Rattle.fresh.proofs.fresh_device.Statement.{statement}
+use Rattle.fresh.proofs.fresh_device.Tie as tie
 
 turned : (b : Bool) → _≡_ {A = ℕ} (cond (not b) 1 0) (cond b 0 1)
 turned true = refl

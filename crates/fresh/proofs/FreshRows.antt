@@ -15,11 +15,11 @@ use Rattle.columns.specs.Column.{Bytes, Column}
 use Rattle.blocks.specs.Kind.{RedstoneTorch, Repeater, Comparator, RedstoneLamp}
 use Rattle.world.specs.Rows.{kindOf, poweredOf, isPowered}
 use Rattle.electrical.specs.Emitted.{goodDevice}
 use Rattle.states.specs.Row.{delayOf, bitsSet, isCandidate, goodQueue, goodLamp, goodTorch, goodState}
 use Rattle.levels.specs.Numbers.{hasPower}
-use Rattle.states.specs.Fresh.{freshDevice, freshQueue, freshLamp, freshRow}
+use Rattle.fresh.specs.Fresh.{freshDevice, freshQueue, freshLamp, freshRow}
 use Rattle.states.proofs.Powers.{delay-range}
 use Rattle.states.proofs.Parts.{whole}
 
 pub length-fresh : (t : Bytes) (weak strong : Column) (i : ℕ) → length (freshRow t weak strong i) ≡ 16
 unfolding freshRow

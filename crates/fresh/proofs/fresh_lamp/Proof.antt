@@ -1,8 +1,8 @@
--- `states::fresh::fresh_lamp` meets its contract. Assumes nothing.
-use Rattle.states.specs.Fresh.{freshLamp}
+-- `fresh::fresh_lamp` meets its contract. Assumes nothing.
+use Rattle.fresh.specs.Fresh.{freshLamp}
 use borrow.Author.Needs.{needs}
-use Rattle.states.proofs.fresh.fresh_lamp.Statement.{statement}
-use Rattle.states.proofs.fresh.fresh_lamp.Tie as tie
+use Rattle.fresh.proofs.fresh_lamp.Statement.{statement}
+use Rattle.fresh.proofs.fresh_lamp.Tie as tie
 
 kind-of-requires : tie.Need-kind-of-requires
 kind-of-requires c κs = search needs

@@ -1,10 +1,10 @@
--- `states::fresh::fresh_step` meets its contract. Assumes nothing.
+-- `fresh::fresh_step` meets its contract. Assumes nothing.
 use native.Mathlib.Omega.{arith}
 use lib.ListN.{length-set}
-use Rattle.states.specs.Fresh.{freshRow}
+use Rattle.fresh.specs.Fresh.{freshRow}
 use borrow.Author.Needs.{needs}
-use Rattle.states.proofs.fresh.fresh_step.Statement.{statement}
-use Rattle.states.proofs.fresh.fresh_step.Tie as tie
+use Rattle.fresh.proofs.fresh_step.Statement.{statement}
+use Rattle.fresh.proofs.fresh_step.Tie as tie
 
 clear-requires : tie.Need-clear-requires
 clear-requires c κs = search needs

@@ -1,15 +1,15 @@
--- `states::fresh::fresh_queue` meets its contract. Assumes nothing.
+-- `fresh::fresh_queue` meets its contract. Assumes nothing.
 use mathlib.Core.Path.{_≡_, refl}
 use mathlib.Core.Bool.{Bool, true, false, cond, _&&_, true≢false, false≢true}
 use Prim.Native.Nat.{ℕ, _*_}
 use native.Mathlib.Omega.{arith}
 use lib.Dec.{eqb}
 use lib.Pow.{pow-pos}
-use Rattle.states.specs.Fresh.{freshQueue, freshDevice}
+use Rattle.fresh.specs.Fresh.{freshQueue, freshDevice}
 use Rattle.states.proofs.Powers.{delay-range}
 use borrow.Author.Needs.{needs}
-use Rattle.states.proofs.fresh.fresh_queue.Statement.{statement}
-use Rattle.states.proofs.fresh.fresh_queue.Tie as tie
+use Rattle.fresh.proofs.fresh_queue.Statement.{statement}
+use Rattle.fresh.proofs.fresh_queue.Tie as tie
 
 filled : (repeater powered : Bool) (x n : ℕ) → (repeater && powered) ≡ true → n ≡ cond repeater (cond repeater (cond powered 1 0) x * n) 0
 filled true true x n h = omega arith

@@ -1,9 +1,9 @@
 // The fresh state of a row.
-use crate::bits::two_to;
-use crate::row::delay_of;
 use blocks::kind;
 use levels::has_power;
 use levels::number;
+use states::bits::two_to;
+use states::row::delay_of;
 use world::row::is_powered;
 use world::row::kind_of;
 use world::row::level_or;
@@ -14,7 +14,7 @@ ghost use mathlib.Core.Bool.{cond};
 ghost use Prim.Native.Nat.{_<_};
 ghost use lib.ListN.{length, replicate};
 ghost use Rattle.columns.specs.Signal.{maxSignal};
-ghost use Rattle.states.specs.Fresh.{freshDevice, freshQueue, freshLamp, freshRow};
+ghost use Rattle.fresh.specs.Fresh.{freshDevice, freshQueue, freshLamp, freshRow};
 
 // The level of a comparator that gives none.
 fn missing_level(powered: bool) -> u8
