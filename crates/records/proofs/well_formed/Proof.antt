@@ -1,7 +1,7 @@
--- `calls::well_formed` meets its contract. Assumes nothing.
+-- `records::well_formed` meets its contract. Assumes nothing.
 use borrow.Author.Needs.{needs}
-use Rattle.calls.proofs.well_formed.Statement.{statement}
-use Rattle.calls.proofs.well_formed.Tie as tie
+use Rattle.records.proofs.well_formed.Statement.{statement}
+use Rattle.records.proofs.well_formed.Tie as tie
 
 has-parts-requires : tie.Need-has-parts-requires
 has-parts-requires c κs = search needs

@@ -1,8 +1,8 @@
--- `calls::columns_agree` meets its contract. Assumes nothing.
-use Rattle.calls.specs.Calls.{columnsAgree}
+-- `records::columns_agree` meets its contract. Assumes nothing.
+use Rattle.records.specs.Record.{columnsAgree}
 use borrow.Author.Needs.{needs}
-use Rattle.calls.proofs.columns_agree.Statement.{statement}
-use Rattle.calls.proofs.columns_agree.Tie as tie
+use Rattle.records.proofs.columns_agree.Statement.{statement}
+use Rattle.records.proofs.columns_agree.Tie as tie
 
 slice-of-requires : tie.Need-slice-of-requires
 slice-of-requires c κs = search needs
@@ -10,17 +10,11 @@ slice-of-requires c κs = search needs
 same-requires : tie.Need-same-requires
 same-requires c κs = search needs
 
-add-slice-of : tie.Need-add-slice-of
-add-slice-of c = search needs
-
 slice-of-requires-2 : tie.Need-slice-of-requires-2
 slice-of-requires-2 c κs = search needs
 
 same-requires-2 : tie.Need-same-requires-2
 same-requires-2 c κs = search needs
-
-add-slice-of-2 : tie.Need-add-slice-of-2
-add-slice-of-2 c = search needs
 
 slice-of-requires-3 : tie.Need-slice-of-requires-3
 slice-of-requires-3 c κs = search needs
@@ -38,10 +32,8 @@ columns-agree-spec =
     (tie.spec
     slice-of-requires
     same-requires
-    add-slice-of
     slice-of-requires-2
     same-requires-2
-    add-slice-of-2
     slice-of-requires-3
     same-requires-3
     returns)
