@@ -1,4 +1,4 @@
-// Whether the answer of a record of operations 1 to 9 is right: the record is taken apart as its operation lays it out, and its parts are
+// Whether the answer of a record of operations 1 to 6 is right: the record is taken apart as its operation lays it out, and its parts are
 // compared.
 use crate::find_agrees;
 use crate::offset_agrees;

@@ -14,23 +14,17 @@ use Rattle.blocks.specs.Kind.{oneOf}
 use Rattle.world.specs.Rows.{rows}
 use Rattle.refusals.specs.declared.Checked.{Checked}
 use Rattle.refusals.specs.declared.Checked.the-variants.{Accepted}
-use Rattle.refusals.specs.Check.{IsAccepted, checkInput, answerOf}
+use Rattle.refusals.specs.Check.{checkInput, answerOf}
 use Rattle.refusals.specs.Answers.{Gives, Tells}
 use Rattle.refusals.proofs.Passed.{passed-both, passed-unless}
 use Rattle.refusals.proofs.Accepted.{accepted-input}
 use Rattle.refusals.proofs.Gives.{or-gives, also-gives, wider-gives, input-gives, values-give}
 use Rattle.refusals.proofs.Tells.{tells}
-use Rattle.electrical.specs.Emitted.{isBadDevice, checkDevices, IsValid, emitted}
+use Rattle.electrical.specs.Emitted.{isBadDevice, checkDevices, emitted}
 use Rattle.electrical.specs.Edges.{networkOf}
-use Rattle.electrical.specs.Answer.{roundsOf, settled, goodColumns, checkCall, checkSettle, ofCall, ofSettle, Columns, SettledTo, Unchanged}
+use Rattle.electrical.specs.Answer.{roundsOf, settled, goodColumns, checkCall, checkSettle, ofCall, ofSettle, Passed, Columns, SettledTo, Unchanged}
 
 -- ---- where settle is not refused
-
-pub record Passed (p t : Bytes) (d : Column) (limit signal weak strong : ℕ) : Type 0 where
-  pub accepted : IsAccepted p t
-  pub valid : IsValid t d
-  pub columns : goodColumns t signal weak strong ≡ true
-  pub enough : roundsOf p t d ≤ limit
 
 module _ (p t : Bytes) (d : Column) (limit signal weak strong : ℕ) where
   pub accepted-passed : checkSettle p t d limit signal weak strong ≡ Accepted → Passed p t d limit signal weak strong

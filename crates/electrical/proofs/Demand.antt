@@ -1,5 +1,5 @@
 -- Demand 3, over tables, in the order of its sentences, which stand in quotation marks. A theorem that asks for no accepted table and no valid
--- column holds of every table and every column.
+-- column holds of every table and every column. `Settles` is what the editor's call `redstone_settle` ensures of its buffers and its answer.
 -- Assumes nothing.
 use mathlib.Core.Path.{_≡_, refl}
 use mathlib.Core.Bool.{true, false}
@@ -25,12 +25,12 @@ use Rattle.refusals.proofs.Tells.{told-accepted, accepted-told, never-told}
 use Rattle.wire.specs.Arms.{armOf}
 use Rattle.electrical.specs.Emitted.{IsValid, emitted}
 use Rattle.electrical.specs.Edges.{networkOf}
-use Rattle.electrical.specs.Answer.{roundsOf, settled, goodColumns, checkCall, checkSettle, ofCall, ofSettle, Settles, SettledTo, Unchanged}
+use Rattle.electrical.specs.Answer.{roundsOf, settled, goodColumns, checkCall, checkSettle, ofCall, ofSettle, Passed, Settles, SettledTo, Unchanged}
 use Rattle.electrical.specs.Join.{largerOf, Joined, Call, JoinedCalls}
 use Rattle.electrical.proofs.Emitted.{emitted-larger, emitted-byte}
 use Rattle.electrical.proofs.Networks.{power-on-map}
 use Rattle.electrical.proofs.Devices.{valid-devices, devices-valid, is-larger, larger-devices}
-use Rattle.electrical.proofs.Answers.{Passed, accepted-passed, passed-accepted, call-gives, settle-gives, settling-tells}
+use Rattle.electrical.proofs.Answers.{accepted-passed, passed-accepted, call-gives, settle-gives, settling-tells}
 
 -- ---- "Whichever two valid device columns of whatever accepted table, under one profile, are joined by taking the larger number at each row:
 -- signal, weak and strong power of the joined column are at every row the larger of the two; its rounds are at most the larger"

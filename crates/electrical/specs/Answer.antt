@@ -1,7 +1,7 @@
 -- What settling answers and writes: the reference is `solve_instantaneous`.
 -- Assumes nothing.
 use mathlib.Core.Path.{_≡_}
-use mathlib.Core.Bool.{Bool, _&&_}
+use mathlib.Core.Bool.{Bool, true, _&&_}
 use mathlib.Core.List.{List, [], _∷_, _++_}
 use Prim.Native.Nat.{ℕ, _≤_}
 use lib.ListN.{length}
@@ -11,9 +11,9 @@ use Rattle.network.specs.Network.{State}
 use Rattle.network.specs.Settled.{roundsOf as networkRounds, settled as networkSettled}
 use Rattle.world.specs.Rows.{rows}
 use Rattle.refusals.specs.declared.Checked.{Checked}
-use Rattle.refusals.specs.Check.{orElse, also, checkInput, answerOf, written}
+use Rattle.refusals.specs.Check.{orElse, also, checkInput, IsAccepted, answerOf, written}
 use Rattle.refusals.specs.Answers.{ofInput}
-use Rattle.electrical.specs.Emitted.{emitted, checkDevices}
+use Rattle.electrical.specs.Emitted.{emitted, checkDevices, IsValid}
 use Rattle.electrical.specs.Edges.{networkOf}
 
 -- "The number of rounds .., the answering one counted", of the table t with the devices d under the profile p
@@ -44,6 +44,13 @@ ofCall = ofInput ++ 6 ∷ 7 ∷ []
 
 abbrev pub ofSettle : List ℕ
 ofSettle = ofCall ++ 8 ∷ []
+
+-- each test of settle passes
+pub record Passed (p t : Bytes) (d : Column) (limit signal weak strong : ℕ) : Type 0 where
+  pub accepted : IsAccepted p t
+  pub valid : IsValid t d
+  pub columns : goodColumns t signal weak strong ≡ true
+  pub enough : roundsOf p t d ≤ limit
 
 -- ---- the whole of a call
 

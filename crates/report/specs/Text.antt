@@ -48,7 +48,7 @@ settleText input = textOf (checkWhole input) (runText (profileOf input) (tableOf
 
 -- ---- a call that writes it
 
--- the room that every text has enough of
+-- room enough for every text; that a shorter buffer gets nothing is a rule of this library
 abbrev pub room : ℕ
 room = 65536
 
