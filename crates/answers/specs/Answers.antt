@@ -1,24 +1,21 @@
--- Whether the proved functions answer as the original did, by operation, of the parts of a record.
+-- Whether the proved functions answer as the original did, by operation, of the parts of a record: operations 1 to 6.
 -- Assumes nothing.
 use mathlib.Core.Bool.{Bool, cond, _&&_}
 use Prim.Native.Nat.{ℕ, _*_, _/_, _%_}
 use lib.ListN.{length, getD, replicate}
 use lib.Dec.{eqb, leb, ltb}
-use Rattle.columns.specs.Column.{Bytes, Column, row, atFront, same}
+use Rattle.columns.specs.Column.{Bytes, Column, row, atFront}
 use Rattle.columns.specs.First.{allBelow}
 use Rattle.places.specs.declared.Pos.{Pos}
 use Rattle.places.specs.Places.{samePos, offset}
 use Rattle.world.specs.Rows.{rows}
 use Rattle.world.specs.Find.{find, kindAt}
 use Rattle.world.specs.Traits.{traits}
-use Rattle.world.specs.Names.{shapeOfName}
-use Rattle.refusals.specs.Check.{checkInput, answerOf, written}
+use Rattle.names.specs.Names.{shapeOfName}
+use Rattle.refusals.specs.Check.{answerOf, written}
 use Rattle.supports.specs.Supports.{supportIssues, checkSupports}
-use Rattle.wire.specs.Arms.{inferWireConnection, resolvedWireConnection}
-use Rattle.wire.specs.Transfer.{dustTransfer, transferNumber}
-use Rattle.redraw.specs.Redraw.{updateWireShapes}
-use Rattle.probe.specs.Numbers.{rowNumber, kindProperties, traitsNumber, knownFacing}
-use Rattle.records.specs.Record.{entry, mostRows, isSmall}
+use Rattle.probe.specs.Numbers.{rowNumber, kindProperties, traitsNumber}
+use Rattle.records.specs.Record.{entry, mostRows}
 
 -- ---- traits of every row
 
@@ -79,23 +76,3 @@ propertiesAgree p want = allBelow (propertyAgrees p want) 13
 
 unfoldable pub offsetAgrees : Pos → Pos → Pos → Bool
 offsetAgrees q d want = samePos (offset q (d .x) (d .y) (d .z)) want
-
--- ---- dust
-
--- the arm at a position along a facing, as it is inferred and as it is resolved
-unfoldable pub armsAgree : Bytes → Bytes → Pos → ℕ → ℕ → ℕ → Bool
-armsAgree p t q facing inferred resolved =
-    eqb (inferWireConnection p t q (knownFacing facing)) inferred
-    && eqb (resolvedWireConnection p t q (knownFacing facing)) resolved
-
--- the transfer between two positions
-unfoldable pub transferAgrees : Bytes → Bytes → Pos → Pos → ℕ → Bool
-transferAgrees p t q sink number = eqb (transferNumber (dustTransfer p t q sink)) number
-
--- the answer and the table of a call that was lent the table t
-unfoldable pub redrawAgreesIn : Bytes → Bytes → Bytes → ℕ → Bool
-redrawAgreesIn p t want answer =
-    eqb (answerOf (checkInput p t) 0) answer && same (written (checkInput p t) t (updateWireShapes p t)) want
-
-unfoldable pub redrawAgrees : Bytes → Bytes → Bytes → ℕ → Bool
-redrawAgrees p t want answer = isSmall t && redrawAgreesIn p t want answer

@@ -1,14 +1,11 @@
-// Whether the answer of a record of operations 1 to 9 is right: the record is taken apart as its operation lays it out, and its parts are
+// Whether the answer of a record of operations 1 to 6 is right: the record is taken apart as its operation lays it out, and its parts are
 // compared.
-use crate::arms_agree;
 use crate::find_agrees;
 use crate::offset_agrees;
 use crate::properties_agree;
-use crate::redraw_agrees;
 use crate::shape_agrees;
 use crate::supports_agree;
 use crate::traits_agree;
-use crate::transfer_agrees;
 use columns::byte_at;
 use records::after;
 use records::from;
@@ -19,7 +16,7 @@ use records::pos_at;
 use records::slice_of;
 ghost use mathlib.Core.Path.{_≡_};
 ghost use lib.IntN.{ℤ};
-ghost use Rattle.answers.specs.Right.{traitsRight, shapeRight, findRight, supportsRight, propertiesRight, offsetRight, armsRight, transferRight, redrawRight};
+ghost use Rattle.answers.specs.Right.{traitsRight, shapeRight, findRight, supportsRight, propertiesRight, offsetRight};
 
 pub fn traits_right(r: &[u8]) -> bool
     ensures { λ b. ⌜ b ≡ traitsRight (now (r .entry)) ⌝ }
@@ -70,45 +67,4 @@ pub fn offset_right(r: &[u8]) -> bool
 {
     let rest = after(r, 0);
     has_parts(r, 0, 36) & offset_agrees(pos_at(rest, 0), pos_at(rest, 12), pos_at(rest, 24))
-}
-
-pub fn arms_right(r: &[u8]) -> bool
-    ensures { λ b. ⌜ b ≡ armsRight (now (r .entry)) ⌝ }
-{
-    let rest = after(r, 2);
-    has_parts(r, 2, 15)
-        & arms_agree(
-            slice_of(r, 0),
-            slice_of(r, 1),
-            pos_at(rest, 0),
-            byte_at(rest, 12),
-            byte_at(rest, 13),
-            byte_at(rest, 14),
-        )
-}
-
-pub fn transfer_right(r: &[u8]) -> bool
-    ensures { λ b. ⌜ b ≡ transferRight (now (r .entry)) ⌝ }
-{
-    let rest = after(r, 2);
-    has_parts(r, 2, 25)
-        & transfer_agrees(
-            slice_of(r, 0),
-            slice_of(r, 1),
-            pos_at(rest, 0),
-            pos_at(rest, 12),
-            byte_at(rest, 24),
-        )
-}
-
-pub fn redraw_right(r: &[u8]) -> bool
-    ensures { λ b. ⌜ b ≡ redrawRight (now (r .entry)) ⌝ }
-{
-    has_parts(r, 3, 4)
-        & redraw_agrees(
-            slice_of(r, 0),
-            slice_of(r, 1),
-            slice_of(r, 2),
-            number(r, 3, 0),
-        )
 }

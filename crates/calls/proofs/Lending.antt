@@ -11,9 +11,9 @@ use borrow.Author.Tests.{leb-true}
 use Rattle.columns.specs.Column.{Bytes}
 use Rattle.columns.proofs.Truth.{and-true}
 use Rattle.world.specs.Rows.{rows}
-use Rattle.records.specs.Record.{sliceOf, number, hasParts, mostRows, mostBytes, isSmall}
+use Rattle.records.specs.Record.{sliceOf, number, hasParts, mostRows, mostBytes, isSmall, wellFormed}
 use Rattle.records.proofs.Blank.{front-blank}
-use Rattle.calls.specs.Calls.{blank, blanks, mostTicks, wellFormed, wellFormedTicks}
+use Rattle.calls.specs.Calls.{blank, blanks, mostTicks, wellFormedTicks}
 
 -- ---- blank arrays
 

@@ -1,18 +1,18 @@
-// Whether the editor's four calls answer and write as the original did. Each function takes a record of its operation, makes the call that
+// Whether the editor's calls that settle answer and write as the original did. Each function takes a record of its operation, makes the call that
 // it tells of, and compares the answer and every byte of every buffer with the recorded ones.
 use columns::same;
 use records::MOST_BYTES;
 use records::after;
+use records::columns_agree;
 use records::copied;
-use records::has_parts;
 use records::number;
 use records::pos_at;
 use records::slice_of;
+use records::well_formed;
 use world::row::rows;
 ghost use mathlib.Core.Path.{_≡_};
-ghost use Prim.Native.Nat.{_<_};
 ghost use lib.IntN.{ℤ};
-ghost use Rattle.calls.specs.Calls.{wellFormed, wellFormedTicks, columnsAgree, settleIn, settleRight, freshIn, freshRight, ticksIn, ticksRight, switchIn, switchRight};
+ghost use Rattle.calls.specs.Calls.{wellFormedTicks, settleIn, settleRight, freshIn, freshRight, ticksIn, ticksRight, switchIn, switchRight};
 
 // What every byte of a buffer that a call is to fill is before it.
 const BLANK: u8 = 195;
@@ -20,27 +20,11 @@ const BLANK: u8 = 195;
 // The most ticks that a record asks for.
 const MOST_TICKS: u32 = 1000;
 
-// Whether a record has so many slices and bytes after them, and a table of at most the most rows.
-fn well_formed(r: &[u8], slices: u8, rest: usize) -> bool
-    ensures { λ b. ⌜ b ≡ wellFormed (now (r .entry)) slices rest ⌝ }
-{
-    has_parts(r, slices, rest) & (slice_of(r, 1).len() <= MOST_BYTES)
-}
-
 // Whether a record of ticks is well formed, and asks for no more of them than the most.
 fn well_formed_ticks(r: &[u8]) -> bool
     ensures { λ b. ⌜ b ≡ wellFormedTicks (now (r .entry)) ⌝ }
 {
     well_formed(r, 7, 12) & ((slice_of(r, 2).len() <= MOST_BYTES) & (number(r, 7, 4) <= MOST_TICKS))
-}
-
-// Whether the columns are slices k to k + 2.
-fn columns_agree(r: &[u8], k: u8, signal: &[u8], weak: &[u8], strong: &[u8]) -> bool
-    requires { ⌜ k < 8 ⌝ }
-    ensures { λ b. ⌜ b ≡ columnsAgree (now (r .entry)) k (now (signal .entry)) (now (weak .entry)) (now (strong .entry)) ⌝ }
-{
-    same(signal, slice_of(r, k))
-        & (same(weak, slice_of(r, k + 1)) & same(strong, slice_of(r, k + 2)))
 }
 
 // Settles in these columns, and compares.
@@ -56,7 +40,7 @@ fn settle_in(r: &[u8], signal: &mut [u8], weak: &mut [u8], strong: &mut [u8]) ->
         weak,
         strong,
     );
-    (answered == number(r, 6, 4)) & columns_agree(r, 3, signal, weak, strong)
+    (answered == number(r, 6, 4)) & columns_agree(r, 3, 4, 5, signal, weak, strong)
 }
 
 // Settling with a column of devices, within a limit of rounds.
@@ -92,7 +76,7 @@ fn fresh_in(
         strong,
     );
     (answered == number(r, 6, 0))
-        & (same(state, slice_of(r, 2)) & columns_agree(r, 3, signal, weak, strong))
+        & (same(state, slice_of(r, 2)) & columns_agree(r, 3, 4, 5, signal, weak, strong))
 }
 
 // The fresh state of a table.
@@ -137,7 +121,7 @@ fn ticks_in(
         strong,
     );
     (answered == number(r, 7, 8))
-        & (same(state, slice_of(r, 3)) & columns_agree(r, 4, signal, weak, strong))
+        & (same(state, slice_of(r, 3)) & columns_agree(r, 4, 5, 6, signal, weak, strong))
 }
 
 // So many ticks from a state.
@@ -187,7 +171,7 @@ fn switch_in(
         strong,
     );
     (answered == number(r, 7, 16))
-        & (same(table, slice_of(r, 2)) & columns_agree(r, 4, signal, weak, strong))
+        & (same(table, slice_of(r, 2)) & columns_agree(r, 4, 5, 6, signal, weak, strong))
 }
 
 // A switch at a position.

@@ -19,8 +19,9 @@ use Rattle.electrical.specs.Answer.{roundsOf, settled, checkSettle}
 use Rattle.states.specs.Row.{deviceOf, togglesOf, candidateOf, delayOf, bitsSet}
 use Rattle.updates.specs.State.{sixteen, freshDevices, freshState}
 use Rattle.updates.specs.Tick.{tick, ticks}
-use Rattle.updates.specs.Calls.{switched}
-use Rattle.report.specs.Text.{ascii, settleText}
+use Rattle.switching.specs.Switch.{switched}
+use Rattle.text.specs.Text.{ascii}
+use Rattle.report.specs.Text.{settleText}
 use Rattle.cases.proofs.Computing.{computing}
 use Rattle.cases.proofs.Build as Build
 use Rattle.cases.proofs.Build.{block, facing, powered, delay, support, shape, subtract}

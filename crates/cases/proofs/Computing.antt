@@ -10,23 +10,31 @@ use Rattle.places.specs.Places.{samePos, before, opposite, step, horizontalOffs
 use Rattle.world.specs.Rows.{posOf, supportOf, armEntry, storedArm}
 use Rattle.world.specs.Find.{find, kindAt}
 use Rattle.world.specs.Traits.{plain, ofShape, traits, traitsAt}
-use Rattle.refusals.specs.Good.{goodProfile, goodPlace, goodRow}
+use Rattle.layout.specs.Good.{goodProfile, goodPlace, goodRow}
 use Rattle.refusals.specs.Check.{checkRows, checkTable, checkInput}
+use Rattle.supports.specs.Supports.{isSupported, lacksSupport, supportIssues, checkSupports}
 use Rattle.connectivity.specs.Ports.{ahead, outputOf, inputOf, across, sidesOf}
 use Rattle.wire.specs.Arms.{connects, componentConnects, joins, rises, drops, inferPast, inferWireConnection, armOf, hasArm}
-use Rattle.wire.specs.Transfer.{fitsHorizontal, fitsRise, fitsFall, fits, ruleAlong, firstRule, transferOf, dustTransfer, transmits}
+use Rattle.wire.specs.Transfer.{fitsHorizontal, fitsRise, fitsFall, fits, ruleAlong, firstRule, transferBy, dustTransfer, transmitsBy}
 use Rattle.redraw.specs.Redraw.{entryOf, entriesOf, withOpposite, drawn, redrawnRow, updateWireShapes}
 use Rattle.electrical.specs.Emitted.{goodDevice, checkDevices, switchLevel, emittedLevel, emitted}
-use Rattle.electrical.specs.Edges.{outputsTo, isSupportOf, isCharged, emittedToStrong, strongToWeak, armTo, alongArm, dustToWeak, touches, feeds, emittedToDust, strongToDust, networkOf}
+use Rattle.electrical.specs.Edges.{outputsTo, isSupportOf, isCharged, emittedToStrong, strongToWeak, armTo, alongArm, touches, feeds, dustToWeakBy, emittedToDustBy, strongToDustBy, networkOf}
 use Rattle.electrical.specs.Answer.{roundsOf, settled, checkCall, checkSettle}
 use Rattle.states.specs.Row.{delayOf, bitsSet, isCandidate, goodQueue, goodLamp, goodTorch, goodState}
-use Rattle.states.specs.Fresh.{freshDevice, freshQueue, freshLamp, freshRow}
-use Rattle.devices.specs.Step.{repeaterInputLevel, isRequested, locksFrom, isLocked, nextQueue, repeaterRow, torchSupportIsPowered, nextToggles, nextCandidate, torchRow, compared, nextComparator, deviceRow, nextLit, nextLeft, lampRow}
+use Rattle.fresh.specs.Fresh.{freshDevice, freshQueue, freshLamp, freshRow}
+use Rattle.repeater.specs.Step.{repeaterInputLevel, isRequested, locksFrom, isLocked, nextQueue, repeaterRow}
+use Rattle.torch.specs.Step.{torchSupportIsPowered, nextToggles, nextCandidate, torchRow}
+use Rattle.comparator.specs.Step.{compared, nextComparator}
+use Rattle.lamp.specs.Step.{nextLit, nextLeft, lampRow}
+use Rattle.devices.specs.Step.{deviceRow}
 use Rattle.updates.specs.State.{devicesOf, checkState, freshDevices, freshState}
 use Rattle.updates.specs.Tick.{withDevices, withLamps, settledOf, setDevices, setLamps, tick, ticks}
-use Rattle.updates.specs.Calls.{checkFresh, checkStep, checkTick, switched}
-use Rattle.report.specs.Text.{decimalWithin, decimalOf, signedText, lineOf, rowText, settledText, refusalText, checkRun, checkWhole, runText, settleText}
+use Rattle.switching.specs.Switch.{switched}
+use Rattle.updates.specs.Calls.{checkFresh, checkStep, checkTick}
+use Rattle.text.specs.Text.{decimalWithin, decimalOf, signedText, lineOf}
+use Rattle.lines.specs.Lines.{rowText, settledText, refusalText}
+use Rattle.report.specs.Text.{checkRun, checkWhole, runText, settleText}
 
 unfoldable pub computing : ℕ
-unfolding tabulateFrom concatRowsFrom same firstFrom indicesFrom settling says signed32 signed8 clamp32 satAdd samePos before opposite step horizontalOffset beside adjacent posOf supportOf armEntry storedArm find kindAt plain ofShape traits traitsAt goodProfile goodPlace goodRow checkRows checkTable checkInput ahead outputOf inputOf across sidesOf connects componentConnects joins rises drops inferPast inferWireConnection armOf hasArm fitsHorizontal fitsRise fitsFall fits ruleAlong firstRule transferOf dustTransfer transmits entryOf entriesOf withOpposite drawn redrawnRow updateWireShapes goodDevice checkDevices switchLevel emittedLevel emitted outputsTo isSupportOf isCharged emittedToStrong strongToWeak armTo alongArm dustToWeak touches feeds emittedToDust strongToDust networkOf roundsOf settled checkCall checkSettle devicesOf delayOf bitsSet isCandidate goodQueue goodLamp goodTorch goodState checkState freshDevice freshDevices freshQueue freshLamp freshRow freshState repeaterInputLevel isRequested locksFrom isLocked nextQueue repeaterRow torchSupportIsPowered nextToggles nextCandidate torchRow compared nextComparator deviceRow nextLit nextLeft lampRow withDevices withLamps settledOf setDevices setLamps tick ticks checkFresh checkStep checkTick switched decimalWithin decimalOf signedText lineOf rowText settledText refusalText checkRun checkWhole runText settleText
+unfolding tabulateFrom concatRowsFrom same firstFrom indicesFrom settling says signed32 signed8 clamp32 satAdd samePos before opposite step horizontalOffset beside adjacent posOf supportOf armEntry storedArm find kindAt plain ofShape traits traitsAt goodProfile goodPlace goodRow checkRows checkTable checkInput isSupported lacksSupport supportIssues checkSupports ahead outputOf inputOf across sidesOf connects componentConnects joins rises drops inferPast inferWireConnection armOf hasArm fitsHorizontal fitsRise fitsFall fits ruleAlong firstRule transferBy dustTransfer transmitsBy entryOf entriesOf withOpposite drawn redrawnRow updateWireShapes goodDevice checkDevices switchLevel emittedLevel emitted outputsTo isSupportOf isCharged emittedToStrong strongToWeak armTo alongArm touches feeds dustToWeakBy emittedToDustBy strongToDustBy networkOf roundsOf settled checkCall checkSettle devicesOf delayOf bitsSet isCandidate goodQueue goodLamp goodTorch goodState checkState freshDevice freshDevices freshQueue freshLamp freshRow freshState repeaterInputLevel isRequested locksFrom isLocked nextQueue repeaterRow torchSupportIsPowered nextToggles nextCandidate torchRow compared nextComparator deviceRow nextLit nextLeft lampRow withDevices withLamps settledOf setDevices setLamps tick ticks checkFresh checkStep checkTick switched decimalWithin decimalOf signedText lineOf rowText settledText refusalText checkRun checkWhole runText settleText
 computing = 0

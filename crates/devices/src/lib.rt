@@ -1,15 +1,9 @@
-// What a tick makes of one row's sixteen bytes of state.
-mod comparator;
-mod lamp;
-mod repeater;
-mod torch;
-
+// What a tick makes of one row's sixteen bytes of state, by its kind.
 use blocks::kind;
-use states::level::has_power;
 ghost use mathlib.Core.Path.{_≡_};
 ghost use lib.ListN.{length};
-ghost use Rattle.states.specs.Fresh.{numbersOf, powersOf};
-ghost use Rattle.devices.specs.Step.{deviceRow, lampRow};
+ghost use Rattle.levels.specs.Numbers.{numbers};
+ghost use Rattle.devices.specs.Step.{deviceRow};
 
 // The device of a row, by its kind, from the old devices and the old settled columns. The row's own bytes are lent.
 pub fn device_step(
@@ -23,7 +17,7 @@ pub fn device_step(
     sixteen: &mut [u8],
 )
     requires { ⌜ length (now sixteen) ≡ 16 ⌝ }
-    ensures { λ _. ⌜ now (sixteen .exit) ≡ deviceRow (now (profile .entry)) (now (table .entry)) (now (devices .entry)) (numbersOf (now (signal .entry)) (now (weak .entry)) (now (strong .entry))) row (now (sixteen .entry)) ⌝ }
+    ensures { λ _. ⌜ now (sixteen .exit) ≡ deviceRow (now (profile .entry)) (now (table .entry)) (now (devices .entry)) (numbers (now (signal .entry)) (now (weak .entry)) (now (strong .entry))) row (now (sixteen .entry)) ⌝ }
 {
     let kind = world::row::kind_of(table, row);
     if kind == kind::REPEATER {
@@ -36,19 +30,5 @@ pub fn device_step(
     }
     if kind == kind::COMPARATOR {
         sixteen[0] = comparator::next_comparator(table, signal, weak, strong, row);
-    }
-}
-
-// The lamp of a row, from the new settled power.
-pub fn lamp_step(table: &[u8], weak: &[u8], strong: &[u8], row: usize, sixteen: &mut [u8])
-    requires { ⌜ length (now sixteen) ≡ 16 ⌝ }
-    ensures { λ _. ⌜ now (sixteen .exit) ≡ lampRow (now (table .entry)) (powersOf (now (weak .entry)) (now (strong .entry))) row (now (sixteen .entry)) ⌝ }
-{
-    if world::row::kind_of(table, row) == kind::REDSTONE_LAMP {
-        let power = has_power(weak, strong, row);
-        let lit = sixteen[2];
-        let left = sixteen[3];
-        sixteen[2] = lamp::next_lit(power, lit, left);
-        sixteen[3] = lamp::next_left(power, lit, left);
     }
 }

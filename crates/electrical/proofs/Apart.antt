@@ -1,4 +1,4 @@
--- What is no neighbour of dust is not above or below it, nor along one of its arms.
+-- What is no neighbour of dust is not above or below it, nor along one of its arms, whatever they are.
 -- Assumes nothing.
 use mathlib.Core.Path.{_≡_}
 use mathlib.Core.Bool.{false}
@@ -37,8 +37,8 @@ module _ (a b : Pos) (h : adjacent a b ≡ false) where
   pub not-below : samePos (below a) b ≡ false
   not-below = apart .down
 
-pub not-along : (p t : Bytes) (j i : ℕ) → adjacent (posOf t j) (posOf t i) ≡ false → alongArm p t j i ≡ false
+pub not-along : (arm : ℕ → ℕ → ℕ) (t : Bytes) (j i : ℕ) → adjacent (posOf t j) (posOf t i) ≡ false → alongArm arm t j i ≡ false
 unfolding alongArm armTo
-not-along p t j i h =
+not-along arm t j i h =
     let a = apart (posOf t j) (posOf t i) h in
     rw (a .north, a .east, a .south, a .west)

@@ -1,16 +1,16 @@
--- The settling of tables: the join of two device columns, the rounds, and the one set of levels. All of it holds for every profile,
--- table and column, so for every accepted table and every valid column of it.
+-- Demand 3, over tables, in the order of its sentences, which stand in quotation marks. A theorem that asks for no accepted table and no valid
+-- column holds of every table and every column. `Settles` is what the editor's call `redstone_settle` ensures of its buffers and its answer.
 -- Assumes nothing.
-use mathlib.Core.Path.{_≡_, refl, sym, _∙_}
-use mathlib.Core.Bool.{Bool, true, false, _&&_}
-use Prim.Native.Nat.{ℕ, _+_, _*_, _≤_, _<_, max}
+use mathlib.Core.Path.{_≡_, refl}
+use mathlib.Core.Bool.{true, false}
+use Prim.Native.Nat.{ℕ, _/_, _≤_, _<_, max}
+use native.Mathlib.Nat.{le-trans}
 use native.Mathlib.Omega.{arith}
 use lib.ListN.{length}
-use borrow.Author.Tests.{le-leb, lt-leb}
+use borrow.Author.Tests.{le-leb}
 use Rattle.columns.specs.Column.{Bytes, Column, row}
 use Rattle.columns.specs.Signal.{maxSignal}
-use Rattle.columns.proofs.Truth.{or-false, and-false-left, and-false-right}
-use Rattle.network.specs.Network.{State, Rounds, Satisfies, Breaks}
+use Rattle.network.specs.Network.{Rounds, Satisfies, Breaks}
 use Rattle.network.specs.Compare.{Larger, AtMost, Within, AtEveryRow₂, AtEveryRow₃, States₂, States₃, Bounded, PowerOnMap}
 use Rattle.network.specs.Demand as Network
 use Rattle.blocks.specs.Kind.{isDust}
@@ -18,58 +18,24 @@ use Rattle.world.specs.Rows.{rows, kindOf}
 use Rattle.world.specs.Traits.{traits, conducts}
 use Rattle.refusals.specs.declared.Checked.{Checked}
 use Rattle.refusals.specs.declared.Checked.the-variants.{Accepted, Refused}
-use Rattle.refusals.specs.Check.{orElse}
+use Rattle.refusals.specs.Check.{orElse, IsAccepted}
+use Rattle.refusals.specs.Answers.{Gives, Tells}
+use Rattle.refusals.proofs.Gives.{not-given}
+use Rattle.refusals.proofs.Tells.{told-accepted, accepted-told, never-told}
+use Rattle.wire.specs.Arms.{armOf}
 use Rattle.electrical.specs.Emitted.{IsValid, emitted}
-use Rattle.electrical.specs.Edges.{emittedToStrong, strongToWeak, dustToWeak, networkOf}
-use Rattle.electrical.specs.Answer.{roundsOf, settled, checkCall, checkSettle}
-use Rattle.electrical.specs.Join.{largerOf, Joined, Called}
+use Rattle.electrical.specs.Edges.{networkOf}
+use Rattle.electrical.specs.Answer.{roundsOf, settled, goodColumns, checkCall, checkSettle, ofCall, ofSettle, Passed, Settles, SettledTo, Unchanged}
+use Rattle.electrical.specs.Join.{largerOf, Joined, Call, JoinedCalls}
 use Rattle.electrical.proofs.Emitted.{emitted-larger, emitted-byte}
+use Rattle.electrical.proofs.Networks.{power-on-map}
 use Rattle.electrical.proofs.Devices.{valid-devices, devices-valid, is-larger, larger-devices}
+use Rattle.electrical.proofs.Answers.{accepted-passed, passed-accepted, call-gives, settle-gives, settling-tells}
 
--- a call on which no later test falls
-or-accepted : (c : Checked) → orElse c Accepted ≡ c
-or-accepted Accepted = refl
-or-accepted (Refused n i) = refl
+-- ---- "Whichever two valid device columns of whatever accepted table, under one profile, are joined by taking the larger number at each row:
+-- signal, weak and strong power of the joined column are at every row the larger of the two; its rounds are at most the larger"
 
--- ---- "the rounds are at most 17 for every valid column of every accepted table"
-
-module _ (p t : Bytes) (d : Column) where
-  -- the number of rounds is that of the first round that answers
-  pub rounds-first : Rounds (networkOf p t) (emitted t d) (roundsOf p t d)
-  unfolding roundsOf
-  rounds-first = Network.rounds-first (networkOf p t) (emitted t d)
-
-  -- it is from 1 to 17
-  pub rounds-range : (1 ≤ roundsOf p t d) × (roundsOf p t d ≤ 17)
-  unfolding roundsOf
-  rounds-range = Network.rounds-range (networkOf p t) (emitted t d)
-
-  -- "so settle with a limit from 17 up never calls it unsettled": number 8 falls on no call with such a limit, whatever its columns
-  pub never-unsettled : (limit : ℕ) → 17 ≤ limit → (signal weak strong : ℕ) → checkSettle p t d limit signal weak strong ≡ checkCall p t d signal weak strong
-  unfolding checkSettle
-  never-unsettled limit h signal weak strong =
-      rw (le-leb (roundsOf p t d) limit (omega (arith, rounds-range))) (or-accepted (checkCall p t d signal weak strong))
-
-  -- ---- "exactly one set of dust levels satisfies the definition, the settled one"
-
-  pub settled-satisfies : Satisfies (networkOf p t) (emitted t d) (row (settled p t d .signal))
-  unfolding settled
-  settled-satisfies = Network.settled-satisfies (networkOf p t) (emitted t d)
-
-  pub settled-only : (x : ℕ → ℕ) → Satisfies (networkOf p t) (emitted t d) x
-      → (i : ℕ) → i < rows t → isDust (kindOf t i) ≡ true → x i ≡ row (settled p t d .signal) i
-  unfolding settled networkOf
-  settled-only = Network.settled-only (networkOf p t) (emitted t d)
-
-  -- a set that differs from it at a dust breaks the definition at some dust, which is named as a row
-  pub others-break : (x : ℕ → ℕ) (i : ℕ) → i < rows t → isDust (kindOf t i) ≡ true → ¬ (x i ≡ row (settled p t d .signal) i)
-      → Breaks (networkOf p t) (emitted t d) x
-  unfolding settled networkOf
-  others-break = Network.others-break (networkOf p t) (emitted t d)
-
--- ---- "Joining two device columns by the larger number at each row gives the larger signal, weak and strong power at each row; the
--- joined rounds are at most the larger"
-
+-- of a column that is at each row the larger
 module _ (p t : Bytes) {a b c : Column} (j : AtEveryRow₃ Larger a b c) where
   pub settled-join : States₃ Larger (settled p t a) (settled p t b) (settled p t c)
   unfolding settled
@@ -79,7 +45,7 @@ module _ (p t : Bytes) {a b c : Column} (j : AtEveryRow₃ Larger a b c) where
   unfolding roundsOf
   rounds-join = Network.rounds-larger (networkOf p t) (emitted-larger t j)
 
--- of two valid columns of a table the joined one is valid, and settles so
+-- and so of the joined one, which is valid
 pub join-settles : (p t : Bytes) (a b : Column) → IsValid t a → IsValid t b → Joined p t a b (largerOf a b)
 join-settles p t a b ha hb =
     let va = valid-devices t a ha in
@@ -90,64 +56,132 @@ join-settles p t a b ha hb =
       rounds = rounds-join p t (is-larger t va vb);
     }
 
--- ---- "settle writes the definition's numbers and answers its rounds whatever its limit"
+-- ---- "whatever its limit, settle, where it does not refuse, writes the definition's numbers and answers the definition's rounds"
 
 module _ {p t : Bytes} {d : Column} {limit : ℕ} {signal weak strong signal′ weak′ strong′ : Column} {r : ℕ}
-    (c : Called p t d limit signal weak strong signal′ weak′ strong′ r) where
-  accepts : roundsOf p t d ≤ limit → checkSettle p t d limit (length signal) (length weak) (length strong) ≡ Accepted
+    (s : Settles p t d limit signal weak strong signal′ weak′ strong′ r) where
+  -- the answer says whether it refuses, and then with which number and row
+  pub settle-tells : Tells ofSettle (checkSettle p t d limit (length signal) (length weak) (length strong)) r (SettledTo p t d signal′ weak′ strong′ r)
+      (Unchanged signal weak strong signal′ weak′ strong′)
+  settle-tells = settling-tells refl (settle-gives p t d (length signal) (length weak) (length strong) limit) (s .answer) (s .columns)
+
+  pub settles : r < 65536 → SettledTo p t d signal′ weak′ strong′ r
+  settles = settle-tells .done
+
+  -- and it does not refuse where each test passes
+  pub settle-done : Passed p t d limit (length signal) (length weak) (length strong) → r < 65536
+  settle-done h = accepted-told settle-tells (passed-accepted p t d limit (length signal) (length weak) (length strong) h)
+
+-- ---- "so both rules hold of what settle writes and answers too, where it refuses none of the three columns"
+
+passed : {p t : Bytes} {d : Column} (x : Call p t d) → x .answer < 65536
+    → Passed p t d (x .limit) (length (x .signal)) (length (x .weak)) (length (x .strong))
+passed {p} {t} {d} x h = accepted-passed p t d _ _ _ _ (told-accepted (settle-tells (x .whole)) h)
+
+joined : {p t : Bytes} {a b : Column} (x : Call p t a) (y : Call p t b) → x .answer < 65536 → y .answer < 65536 → Joined p t a b (largerOf a b)
+joined {p} {t} {a} {b} x y hx hy = join-settles p t a b (passed x hx .valid) (passed y hy .valid)
+
+module _ {p t : Bytes} {a b : Column} (x : Call p t a) (y : Call p t b) (z : Call p t (largerOf a b)) where
+  pub written-join : x .answer < 65536 → y .answer < 65536 → z .answer < 65536 → JoinedCalls x y z
+  written-join hx hy hz =
+      let sx = settles (x .whole) hx in
+      let sy = settles (y .whole) hy in
+      let sz = settles (z .whole) hz in
+      let j = joined x y hx hy in
+      record {
+        signals = rw (sx .signals, sy .signals, sz .signals) (j .numbers .signal);
+        weaks = rw (sx .weaks, sy .weaks, sz .weaks) (j .numbers .weak);
+        strongs = rw (sx .strongs, sy .strongs, sz .strongs) (j .numbers .strong);
+        rounds = rw (sx .rounds, sy .rounds, sz .rounds) (j .rounds);
+        range = (sx .range, sy .range, sz .range);
+      }
+
+  -- where it does not refuse the first two, it does not refuse the third with output columns of one entry a row and a limit that is at
+  -- least the larger answer
+  pub join-done : x .answer < 65536 → y .answer < 65536 → goodColumns t (length (z .signal)) (length (z .weak)) (length (z .strong)) ≡ true
+      → max (x .answer) (y .answer) ≤ z .limit → z .answer < 65536
+  join-done hx hy columns enough =
+      let j = joined x y hx hy in
+      settle-done (z .whole)
+      (record {
+        accepted = passed x hx .accepted;
+        valid = j .valid;
+        columns = columns;
+        enough = le-trans (j .rounds) (rw (settles (x .whole) hx .rounds, settles (y .whole) hy .rounds) at enough);
+      })
+
+-- ---- "the rounds are at most 17 for every valid column of every accepted table"
+
+module _ (p t : Bytes) (d : Column) where
+  -- the number of rounds is that of the first round that answers
+  pub rounds-first : Rounds (networkOf p t) (emitted t d) (roundsOf p t d)
+  unfolding roundsOf
+  rounds-first = Network.rounds-first (networkOf p t) (emitted t d)
+
+  pub rounds-range : (1 ≤ roundsOf p t d) × (roundsOf p t d ≤ 17)
+  unfolding roundsOf
+  rounds-range = Network.rounds-range (networkOf p t) (emitted t d)
+
+-- ---- "so settle with a limit from 17 up never calls it unsettled"
+
+or-accepted : (c : Checked) → orElse c Accepted ≡ c
+or-accepted Accepted = refl
+or-accepted (Refused n i) = refl
+
+module _ (p t : Bytes) (d : Column) (limit : ℕ) (h : 17 ≤ limit) (signal weak strong : ℕ) where
+  -- the test of the limit changes nothing
+  pub never-unsettled : checkSettle p t d limit signal weak strong ≡ checkCall p t d signal weak strong
   unfolding checkSettle
-  accepts h = rw (c .passed, le-leb (roundsOf p t d) limit h)
+  never-unsettled = rw (le-leb (roundsOf p t d) limit (omega (arith, rounds-range p t d))) (or-accepted (checkCall p t d signal weak strong))
 
-  refuses : limit < roundsOf p t d → checkSettle p t d limit (length signal) (length weak) (length strong) ≡ Refused 8 0
-  unfolding checkSettle
-  refuses h = rw (c .passed, lt-leb (roundsOf p t d) limit h)
+  pub gives-from-17 : Gives ofCall (checkSettle p t d limit signal weak strong)
+  gives-from-17 = rw never-unsettled (call-gives p t d signal weak strong)
 
-  -- where the limit is enough, the answer is the rounds and the columns hold the settled numbers
-  pub settles : roundsOf p t d ≤ limit
-      → (r ≡ roundsOf p t d) × (signal′ ≡ settled p t d .signal) × (weak′ ≡ settled p t d .weak) × (strong′ ≡ settled p t d .strong)
-  settles h =
-      let s = c .whole in
-      (rw (accepts h) at (s .answer), rw (accepts h) at (s .columns .signals), rw (accepts h) at (s .columns .weaks), rw (accepts h) at (s .columns .strongs))
+  -- whatever it is handed, number 8 does not fall on it
+  pub never-8 : (i : ℕ) → ¬ (checkSettle p t d limit signal weak strong ≡ Refused 8 i)
+  never-8 i = not-given gives-from-17 8 i refl
 
-  -- where it is not, the answer is number 8 and no column has changed
-  pub unsettled : limit < roundsOf p t d → (r ≡ 65536 * 8) × (signal′ ≡ signal) × (weak′ ≡ weak) × (strong′ ≡ strong)
-  unsettled h =
-      let s = c .whole in
-      (rw (refuses h) at (s .answer), rw (refuses h) at (s .columns .signals), rw (refuses h) at (s .columns .weaks), rw (refuses h) at (s .columns .strongs))
+module _ {p t : Bytes} {d : Column} {limit : ℕ} {signal weak strong signal′ weak′ strong′ : Column} {r : ℕ}
+    (s : Settles p t d limit signal weak strong signal′ weak′ strong′ r) (h : 17 ≤ limit) where
+  -- nor is it read from its answer
+  pub tells-from-17 : Tells ofCall (checkSettle p t d limit (length signal) (length weak) (length strong)) r (SettledTo p t d signal′ weak′ strong′ r)
+      (Unchanged signal weak strong signal′ weak′ strong′)
+  tells-from-17 = settling-tells refl (gives-from-17 p t d limit h (length signal) (length weak) (length strong)) (s .answer) (s .columns)
 
-  -- so it is with every limit from 17 up
-  pub settles-from-17 : 17 ≤ limit
-      → (r ≡ roundsOf p t d) × (signal′ ≡ settled p t d .signal) × (weak′ ≡ settled p t d .weak) × (strong′ ≡ settled p t d .strong)
-  settles-from-17 h = settles (omega (arith, rounds-range p t d))
+  pub never-answers-8 : ¬ (r / 65536 ≡ 8)
+  never-answers-8 = never-told tells-from-17 8 (omega arith) refl
 
--- three calls, of two columns and of their join, each with a limit of its own that is enough: the third leaves at each row the
--- larger of what the others leave, and answers at most the larger answer, and at most 17
-module _ {p t : Bytes} {a b c : Column} (j : AtEveryRow₃ Larger a b c) {k l m : ℕ}
-    {s₁ w₁ g₁ s₂ w₂ g₂ s₃ w₃ g₃ s₁′ w₁′ g₁′ s₂′ w₂′ g₂′ s₃′ w₃′ g₃′ : Column} {x y z : ℕ}
-    (first : Called p t a k s₁ w₁ g₁ s₁′ w₁′ g₁′ x) (second : Called p t b l s₂ w₂ g₂ s₂′ w₂′ g₂′ y) (third : Called p t c m s₃ w₃ g₃ s₃′ w₃′ g₃′ z)
-    (hk : roundsOf p t a ≤ k) (hl : roundsOf p t b ≤ l) (hm : roundsOf p t c ≤ m) where
-  pub written-join : (AtEveryRow₃ Larger s₁′ s₂′ s₃′ × AtEveryRow₃ Larger w₁′ w₂′ w₃′ × AtEveryRow₃ Larger g₁′ g₂′ g₃′) × (z ≤ max x y) × (z ≤ 17)
-  written-join =
-      let (x-is, s₁-is, w₁-is, g₁-is) = settles first hk in
-      let (y-is, s₂-is, w₂-is, g₂-is) = settles second hl in
-      let (z-is, s₃-is, w₃-is, g₃-is) = settles third hm in
-      let n = settled-join p t j in (
-        (rw (s₁-is, s₂-is, s₃-is) (n .signal), rw (w₁-is, w₂-is, w₃-is) (n .weak), rw (g₁-is, g₂-is, g₃-is) (n .strong)),
-        rw (x-is, y-is, z-is) (rounds-join p t j),
-        rw z-is (rounds-range p t c .1),
-      )
+  -- and with a valid column of an accepted table, and output columns of one entry a row, it is the rounds
+  pub settles-from-17 : IsAccepted p t → IsValid t d → goodColumns t (length signal) (length weak) (length strong) ≡ true
+      → SettledTo p t d signal′ weak′ strong′ r
+  settles-from-17 a v c =
+      settles s (settle-done s (record { accepted = a; valid = v; columns = c; enough = omega (arith, rounds-range p t d) }))
+
+-- ---- "exactly one set of dust levels satisfies the definition, the settled one"
+
+module _ (p t : Bytes) (d : Column) where
+  pub settled-satisfies : Satisfies (networkOf p t) (emitted t d) (row (settled p t d .signal))
+  unfolding settled
+  settled-satisfies = Network.settled-satisfies (networkOf p t) (emitted t d)
+
+  pub settled-only : (x : ℕ → ℕ) → Satisfies (networkOf p t) (emitted t d) x
+      → (i : ℕ) → i < rows t → isDust (kindOf t i) ≡ true → x i ≡ row (settled p t d .signal) i
+  unfolding settled networkOf
+  settled-only = Network.settled-only (networkOf p t) (emitted t d)
+
+  -- ---- "every other set breaks it at some dust": a set that differs at a dust does, at a dust that is named as a row
+
+  pub others-break : (x : ℕ → ℕ) (i : ℕ) → i < rows t → isDust (kindOf t i) ≡ true → ¬ (x i ≡ row (settled p t d .signal) i)
+      → Breaks (networkOf p t) (emitted t d) x
+  unfolding settled networkOf
+  others-break = Network.others-break (networkOf p t) (emitted t d)
 
 -- ---- what the calls above need besides
 
 -- power reaches only rows of the map
 pub on-map : (p t : Bytes) → PowerOnMap (networkOf p t)
-unfolding networkOf emittedToStrong strongToWeak dustToWeak
-on-map p t =
-    record {
-      emittedToStrong = λ j i h. and-false-left _ _ (or-false (traits p t i .weak) _ h .1);
-      strongToWeak = λ j i h. and-false-left _ _ (or-false (traits p t i .weak) _ h .0);
-      dustToWeak = λ j i h. and-false-right (isDust (kindOf t j)) _ (and-false-left _ _ (or-false (traits p t i .weak) _ h .0));
-    }
+unfolding networkOf
+on-map p t = power-on-map (armOf p t) p t
 
 module _ (p t : Bytes) (d : Column) where
   -- "power 0 off the map"

@@ -1,8 +1,8 @@
 -- Laws of valid device columns: what the check says of one, and that the row-wise larger of two is valid.
 -- Assumes nothing.
-use mathlib.Core.Path.{_≡_, refl, sym, _∙_}
+use mathlib.Core.Path.{_≡_, ap, sym, _∙_}
 use mathlib.Core.Logic.{_⊎_, inl, inr, ⊎-elim, by-cases}
-use mathlib.Core.Bool.{true}
+use mathlib.Core.Bool.{true, not}
 use Prim.Native.Nat.{ℕ, _≤_, _<_, max}
 use native.Mathlib.Nat.{max-eq-left, max-eq-right}
 use native.Mathlib.Decide.{decLe, decLt}
@@ -11,13 +11,11 @@ use lib.ListN.{length, List·getD-eq-default}
 use lib.Dec.{eqb}
 use borrow.Author.Tests.{eqb-true, eq-eqb, not-false}
 use Rattle.columns.specs.Column.{Bytes, Column, row, tabulate}
-use Rattle.columns.specs.First.{firstFrom}
 use Rattle.columns.proofs.Columns.{length-tabulate, row-tabulate}
-use Rattle.columns.proofs.First.{first-none, none-first}
 use Rattle.network.specs.Compare.{Larger, AtEveryRow₃}
 use Rattle.world.specs.Rows.{rows, kindOf}
 use Rattle.refusals.specs.declared.Checked.the-variants.{Accepted}
-use Rattle.refusals.proofs.Passed.{passed-unless, passed-at}
+use Rattle.refusals.proofs.Passed.{passed-values, values-pass}
 use Rattle.electrical.specs.Emitted.{goodDevice, isBadDevice, checkDevices}
 use Rattle.electrical.specs.Join.{largerOf}
 
@@ -28,14 +26,13 @@ pub record Devices (t : Bytes) (d : Column) : Type 0 where
 pub valid-devices : (t : Bytes) (d : Column) → checkDevices t d ≡ Accepted → Devices t d
 unfolding checkDevices
 valid-devices t d h =
-    let (a, g) = passed-unless 6 (eqb (length d) (rows t)) _ h in
-    let (b, _) = passed-at 6 0 (firstFrom (isBadDevice t d) (rows t) 0) _ g in
-    record { sized = eqb-true _ _ a; good = λ i l. not-false _ (first-none (isBadDevice t d) (rows t) 0 b i (omega arith) (omega arith)) }
+    let (sized, good) = passed-values (eqb (length d) (rows t)) (isBadDevice t d) (rows t) h in
+    record { sized = eqb-true _ _ sized; good = λ i l. not-false _ (good i l) }
 
 pub devices-valid : (t : Bytes) (d : Column) → Devices t d → checkDevices t d ≡ Accepted
 unfolding checkDevices
 devices-valid t d v =
-    rw (eq-eqb (length d) (rows t) (v .sized), none-first (isBadDevice t d) (rows t) 0 (λ i _ l. rw (v .good i (omega arith))))
+    values-pass (eqb (length d) (rows t)) (isBadDevice t d) (rows t) (eq-eqb _ _ (v .sized)) (λ i l. ap not (v .good i l))
 
 -- ---- the row-wise larger of two
 

@@ -7,13 +7,12 @@ use Prim.Native.Nat.{ℕ, min}
 use lib.ListN.{length}
 use lib.Dec.{eqb, leb}
 use Rattle.columns.specs.Column.{Bytes, Column, row, tabulate}
-use Rattle.columns.specs.First.{firstFrom}
 use Rattle.columns.specs.Signal.{maxSignal}
 use Rattle.blocks.specs.Kind.{RedstoneTorch, Repeater, Comparator, RedstoneBlock, isSwitch, oneOf}
 use Rattle.world.specs.Rows.{rows, kindOf, isPowered, levelOr}
 use Rattle.refusals.specs.declared.Checked.{Checked}
 use Rattle.refusals.specs.declared.Checked.the-variants.{Accepted}
-use Rattle.refusals.specs.Check.{refuseUnless, refuseAt}
+use Rattle.refusals.specs.Check.{checkValues}
 
 -- what is on or off: torch and repeater
 abbrev pub isOnOff : ℕ → Bool
@@ -28,9 +27,9 @@ goodDevice k b = cond (isOnOff k) (leb b 1) (eqb k Comparator || eqb b 0)
 abbrev pub isBadDevice : Bytes → Column → ℕ → Bool
 isBadDevice t d i = not (goodDevice (kindOf t i) (row d i))
 
--- 6 bad state: "device column .. of wrong length or value"; "in 6 length before value"
+-- 6 bad state: "device column .. of wrong length or value"
 unfoldable pub checkDevices : Bytes → Column → Checked
-checkDevices t d = refuseUnless 6 (eqb (length d) (rows t)) (refuseAt 6 0 (firstFrom (isBadDevice t d) (rows t) 0) Accepted)
+checkDevices t d = checkValues (eqb (length d) (rows t)) (isBadDevice t d) (rows t)
 
 -- "a device column of it is valid if none falls on the column"
 abbrev pub IsValid : Bytes → Column → Type 0

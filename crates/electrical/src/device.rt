@@ -46,13 +46,7 @@ fn check_column(table: &[u8], devices: &[u8]) -> Checked
     if devices.len() != rows {
         return Checked::Refused { number: 6, row: 0 };
     }
-    let Found::At(i) = first_bad_device(table, devices, rows) else {
-        return Checked::Accepted;
-    };
-    Checked::Refused {
-        number: 6,
-        row: i as u16,
-    }
+    refusals::refuse_at(6, first_bad_device(table, devices, rows), 0)
 }
 
 // Refusals 1 to 6.

@@ -17,6 +17,7 @@ ghost use mathlib.Core.Bool.{_||_};
 ghost use Rattle.blocks.specs.Kind.{isSwitch};
 ghost use Rattle.places.specs.Places.{beside, below, samePos, adjacent, isAt};
 ghost use Rattle.world.specs.Rows.{posOf};
+ghost use Rattle.wire.specs.Arms.{armOf};
 ghost use Rattle.electrical.specs.Edges.{outputsTo, isSupportOf, isCharged, emittedToStrong, strongToWeak, armTo, alongArm, dustToWeak, touches, feeds, emittedToDust, strongToDust};
 
 // Lever, button and plate.
@@ -107,7 +108,7 @@ pub fn strong_to_weak(profile: &[u8], table: &[u8], j: usize, i: usize) -> bool
 
 // Whether row i is beside dust j along the facing, and j has that arm.
 fn arm_to(profile: &[u8], table: &[u8], j: usize, i: usize, facing: u8) -> bool
-    ensures { λ r. ⌜ r ≡ armTo (now (profile .entry)) (now (table .entry)) j i facing ⌝ }
+    ensures { λ r. ⌜ r ≡ armTo (armOf (now (profile .entry)) (now (table .entry))) (now (table .entry)) j i facing ⌝ }
 {
     if is_beside(pos_of(table, j), facing, pos_of(table, i)) {
         return has_arm(profile, table, j, facing);
@@ -117,7 +118,7 @@ fn arm_to(profile: &[u8], table: &[u8], j: usize, i: usize, facing: u8) -> bool
 
 // Whether row i is along one of the arms of dust j.
 fn along_arm(profile: &[u8], table: &[u8], j: usize, i: usize) -> bool
-    ensures { λ r. ⌜ r ≡ alongArm (now (profile .entry)) (now (table .entry)) j i ⌝ }
+    ensures { λ r. ⌜ r ≡ alongArm (armOf (now (profile .entry)) (now (table .entry))) (now (table .entry)) j i ⌝ }
 {
     arm_to(profile, table, j, i, Facing::NORTH)
         | (arm_to(profile, table, j, i, Facing::EAST)
@@ -127,7 +128,7 @@ fn along_arm(profile: &[u8], table: &[u8], j: usize, i: usize) -> bool
 
 // Whether row i is below dust j or along one of its arms.
 fn reaches(profile: &[u8], table: &[u8], j: usize, i: usize) -> bool
-    ensures { λ r. ⌜ r ≡ (samePos (below (posOf (now (table .entry)) j)) (posOf (now (table .entry)) i) || alongArm (now (profile .entry)) (now (table .entry)) j i) ⌝ }
+    ensures { λ r. ⌜ r ≡ (samePos (below (posOf (now (table .entry)) j)) (posOf (now (table .entry)) i) || alongArm (armOf (now (profile .entry)) (now (table .entry))) (now (table .entry)) j i) ⌝ }
 {
     let dust = pos_of(table, j);
     let other = pos_of(table, i);
@@ -152,7 +153,7 @@ pub fn dust_to_weak(profile: &[u8], table: &[u8], j: usize, i: usize) -> bool
 
 // Whether row j is above dust i, below it or along one of its arms.
 fn touches(profile: &[u8], table: &[u8], j: usize, i: usize) -> bool
-    ensures { λ r. ⌜ r ≡ touches (now (profile .entry)) (now (table .entry)) j i ⌝ }
+    ensures { λ r. ⌜ r ≡ touches (armOf (now (profile .entry)) (now (table .entry))) (now (table .entry)) j i ⌝ }
 {
     let dust = pos_of(table, i);
     let other = pos_of(table, j);

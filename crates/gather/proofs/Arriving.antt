@@ -8,7 +8,7 @@ use Rattle.columns.specs.Column.{Bytes}
 use Rattle.columns.proofs.Truth.{and-false-left}
 use Rattle.network.specs.Levels.{arriving}
 use Rattle.network.specs.Laws.Gather.{arriving-next}
-use Rattle.electrical.specs.Edges.{emittedToStrong, strongToWeak, emittedToDust, strongToDust}
+use Rattle.electrical.specs.Edges.{emittedToStrong, strongToWeak, emittedToDustBy, strongToDustBy}
 use Rattle.gather.specs.declared.arrivals.Edge.{Edge}
 use Rattle.gather.specs.declared.arrivals.Edge.the-variants.{EmittedToStrong, StrongToWeak, EmittedToDust, StrongToDust}
 use Rattle.gather.specs.Arrivals.{reaches, receives}
@@ -35,7 +35,7 @@ module _ (n : ℕ) (edge : ℕ → ℕ → Bool) (f : ℕ → ℕ) (i : ℕ) {be
 
 -- where nothing can arrive there is no edge
 pub none-reaches : (e : Edge) (p t : Bytes) (i : ℕ) → receives e p t i ≡ false → (j : ℕ) → reaches e p t j i ≡ false
-unfolding emittedToStrong strongToWeak emittedToDust strongToDust
+unfolding emittedToStrong strongToWeak emittedToDustBy strongToDustBy
 none-reaches EmittedToStrong p t i h j = and-false-left _ _ h
 none-reaches StrongToWeak p t i h j = and-false-left _ _ h
 none-reaches EmittedToDust p t i h j = and-false-left _ _ h

@@ -19,9 +19,9 @@ use Rattle.world.specs.Rows.{rows, posOf, kindOf}
 use Rattle.world.specs.Traits.{traits}
 use Rattle.refusals.specs.Accepted.{Table}
 use Rattle.refusals.proofs.Accepted.{in-range}
-use Rattle.wire.specs.Transfer.{transmits}
+use Rattle.wire.specs.Transfer.{transmitsBy}
 use Rattle.wire.proofs.Around.{transmits-around}
-use Rattle.electrical.specs.Edges.{someOf, armTo, alongArm, dustToWeak}
+use Rattle.electrical.specs.Edges.{someOf, armTo, alongArm, dustToWeakBy}
 use Rattle.gather.specs.Slots.{aroundAt, overAt}
 
 -- the position n is the one at some k below w
@@ -131,12 +131,12 @@ some-true test (f ∷ fs) h =
     (λ e. let s : Some test fs = some-true test fs e in record { along = s .along; inside = List·Memᴰ·tail (s .inside); passes = s .passes })
     (or-true (test f) _ h)
 
--- ---- where a source stands
+-- ---- where a source stands, whatever the arms
 
-module _ (p t : Bytes) (a : Table t) (j i : ℕ) (h : j < rows t) where
+module _ (arm : ℕ → ℕ → ℕ) (p t : Bytes) (a : Table t) (j i : ℕ) (h : j < rows t) where
   -- dust j transmits to dust i
-  pub transmits-near : i < rows t → transmits p t j i ≡ true → Among 12 (aroundAt (posOf t i)) (posOf t j)
-  transmits-near g e = around-among (posOf t i) (in-range t a i g) (posOf t j) (transmits-around p t j i (in-range t a j h) e)
+  pub transmits-near : i < rows t → transmitsBy arm p t j i ≡ true → Among 12 (aroundAt (posOf t i)) (posOf t j)
+  transmits-near g e = around-among (posOf t i) (in-range t a i g) (posOf t j) (transmits-around arm p t j i (in-range t a j h) e)
 
   from-above : samePos (below (posOf t j)) (posOf t i) ≡ true → Among 5 (overAt (posOf t i)) (posOf t j)
   from-above e =
@@ -145,18 +145,18 @@ module _ (p t : Bytes) (a : Table t) (j i : ℕ) (h : j < rows t) where
       ap above (sym down) ∙ offset-back (posOf t j) (in-range t a j h) zeroZ minusOne zeroZ (omega arith) (omega arith) (omega arith) in
       rw back at (over-above (posOf t i))
 
-  from-side : alongArm p t j i ≡ true → Among 5 (overAt (posOf t i)) (posOf t j)
+  from-side : alongArm arm t j i ≡ true → Among 5 (overAt (posOf t i)) (posOf t j)
   unfolding alongArm armTo beside
   from-side e =
-      let s : Some (armTo p t j i) horizontals = some-true (armTo p t j i) horizontals e in
+      let s : Some (armTo arm t j i) horizontals = some-true (armTo arm t j i) horizontals e in
       let side : beside (posOf t j) (s .along) ≡ posOf t i = samePos-true _ _ (and-true (samePos (beside (posOf t j) (s .along)) (posOf t i)) _ (s .passes) .0) in
       let back : beside (posOf t i) (opposite (s .along)) ≡ posOf t j =
       ap (λ q. beside q (opposite (s .along))) (sym side) ∙ sideways-back (posOf t j) (in-range t a j h) (s .along) (s .inside) zeroZ (omega arith) in
       rw back at (over-side (posOf t i) (opposite (s .along)) (opposite-horizontal (posOf t j) (in-range t a j h) (s .along) (s .inside)))
 
   -- dust j gives block i weak power
-  pub dustToWeak-near : dustToWeak p t j i ≡ true → Among 5 (overAt (posOf t i)) (posOf t j)
-  unfolding dustToWeak
+  pub dustToWeak-near : dustToWeakBy arm p t j i ≡ true → Among 5 (overAt (posOf t i)) (posOf t j)
+  unfolding dustToWeakBy
   dustToWeak-near e =
       ⊎-elim from-above from-side
       (or-true (samePos (below (posOf t j)) (posOf t i)) _ (and-true (traits p t i .weak) _ (and-true (isDust (kindOf t j)) _ e .1) .1))

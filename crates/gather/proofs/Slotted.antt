@@ -23,9 +23,10 @@ use Rattle.world.specs.Traits.{traits}
 use Rattle.world.proofs.Finding.{found-stands}
 use Rattle.refusals.specs.Accepted.{Table}
 use Rattle.refusals.proofs.Accepted.{find-at}
+use Rattle.wire.specs.Arms.{armOf}
 use Rattle.wire.specs.Transfer.{transmits}
 use Rattle.wire.proofs.Around.{transmits-dust}
-use Rattle.electrical.specs.Edges.{dustToWeak}
+use Rattle.electrical.specs.Edges.{dustToWeakBy, dustToWeak}
 use Rattle.gather.specs.Slots.{aroundAt, overAt, noRow, slotOf, feederAt, underAt, feeders, unders}
 use Rattle.network.specs.Laws.Top.{top-same, top-less}
 use Rattle.gather.proofs.Halving.{byHalves-is}
@@ -90,10 +91,10 @@ module _ (p t : Bytes) (a : Table t) (i : ℕ) (l : i < rows t) where
       let row-is : (i * 12 + k) / 12 ≡ i = omega arith in
       let slot-is : (i * 12 + k) % 12 ≡ k = omega arith in
       row-tabulate (rows t * 12) (λ m. feederAt p t (m / 12) (m % 12)) (i * 12 + k) (omega arith)
-      ∙ rw (row-is, slot-is, byHalves-is t a (aroundAt (posOf t i) k)) (guarded (isDust (kindOf t i)) _ _ (λ j e. transmits-dust p t j i e .1))
+      ∙ rw (row-is, slot-is, byHalves-is t a (aroundAt (posOf t i) k)) (guarded (isDust (kindOf t i)) _ _ (λ j e. transmits-dust (armOf p t) p t j i e .1))
 
   dustToWeak-row : (k : ℕ) → k < 5 → row (unders p t (rows t * 5)) (i * 5 + k) ≡ slotOf (λ j. dustToWeak p t j i) (find t (overAt (posOf t i) k))
-  unfolding underAt dustToWeak
+  unfolding underAt dustToWeakBy
   dustToWeak-row k h =
       let row-is : (i * 5 + k) / 5 ≡ i = omega arith in
       let slot-is : (i * 5 + k) % 5 ≡ k = omega arith in
@@ -109,12 +110,12 @@ module _ (p t : Bytes) (a : Table t) (s : Column) (sized : length s ≡ rows t) 
   -- "each transmitting dust's level less one"
   pub arriving-feeders : arriving (rows t) (transmits p t) (λ j. row s j - 1) i ≡ top 12 (λ k. row s (row (feeders p t (rows t * 12)) (i * 12 + k))) - 1
   arriving-feeders =
-      arriving-slots t a (transmits p t) i 12 (aroundAt (posOf t i)) (λ j h. transmits-near p t a j i h l) (λ j. row s j - 1) (rw none-level)
+      arriving-slots t a (transmits p t) i 12 (aroundAt (posOf t i)) (λ j h. transmits-near (armOf p t) p t a j i h l) (λ j. row s j - 1) (rw none-level)
       ∙ top-less 12 _
       ∙ ap (λ x. x - 1) (top-same 12 _ _ (λ k h. ap (row s) (sym (feeder-row p t a i l k h))))
 
   -- "dust reaches the block below and along its arms"
   pub arriving-unders : arriving (rows t) (dustToWeak p t) (row s) i ≡ top 5 (λ k. row s (row (unders p t (rows t * 5)) (i * 5 + k)))
   arriving-unders =
-      arriving-slots t a (dustToWeak p t) i 5 (overAt (posOf t i)) (λ j h. dustToWeak-near p t a j i h) (row s) none-level
+      arriving-slots t a (dustToWeak p t) i 5 (overAt (posOf t i)) (λ j h. dustToWeak-near (armOf p t) p t a j i h) (row s) none-level
       ∙ top-same 5 _ _ (λ k h. ap (row s) (sym (dustToWeak-row p t a i l k h)))

@@ -8,7 +8,7 @@ ghost use Rattle.places.specs.Places.{cell, opposite, horizontalOffset};
 ghost use Rattle.places.specs.Places.{offset as moved};
 ghost use Rattle.world.specs.Find.{find, kindAt};
 ghost use Rattle.world.specs.Traits.{traits};
-ghost use Rattle.world.specs.Names.{shapeOfName};
+ghost use Rattle.names.specs.Names.{shapeOfName};
 ghost use Rattle.refusals.specs.Check.{checkInput, answerOf};
 ghost use Rattle.supports.specs.Supports.{Listed};
 ghost use Rattle.wire.specs.Arms.{componentConnects, inferWireConnection, resolvedWireConnection};
@@ -28,14 +28,14 @@ pub extern "C" fn probe_check(profile: &[u8], table: &[u8]) -> u32
 pub extern "C" fn probe_find(table: &[u8], x: i32, y: i32, z: i32) -> u64
     ensures { λ r. ⌜ r ≡ rowNumber (find (now (table .entry)) (cell x y z)) ⌝ }
 {
-    numbers::row_number(world::reader::get(table, Pos::new(x, y, z)))
+    numbers::row_number(reader::get(table, Pos::new(x, y, z)))
 }
 
 #[no_mangle]
 pub extern "C" fn probe_kind_at(table: &[u8], x: i32, y: i32, z: i32) -> u32
     ensures { λ r. ⌜ r ≡ kindAt (now (table .entry)) (cell x y z) ⌝ }
 {
-    world::reader::kind_at(table, Pos::new(x, y, z)) as u32
+    reader::kind_at(table, Pos::new(x, y, z)) as u32
 }
 
 #[no_mangle]
@@ -59,7 +59,7 @@ pub extern "C" fn probe_traits(profile: &[u8], table: &[u8], row: u64) -> u32
 pub extern "C" fn probe_shape_of_name(name: &[u8], slab_type: &[u8], half: &[u8]) -> u32
     ensures { λ r. ⌜ r ≡ shapeOfName (now (name .entry)) (now («slab_type» .entry)) (now (half .entry)) ⌝ }
 {
-    world::name::shape_of_name(name, slab_type, half) as u32
+    names::shape_of_name(name, slab_type, half) as u32
 }
 
 #[no_mangle]

@@ -5,7 +5,7 @@ use mathlib.Core.Bool.{Bool, _&&_}
 use Prim.Native.Nat.{ℕ, zero, suc, _+_, _*_}
 use lib.ListN.{length, getD, take, drop}
 use lib.Dec.{eqb, leb}
-use Rattle.columns.specs.Column.{Bytes, row, tabulate}
+use Rattle.columns.specs.Column.{Bytes, Column, row, tabulate, same}
 use Rattle.places.specs.declared.Pos.{Pos}
 use Rattle.world.specs.Rows.{posOf}
 
@@ -68,6 +68,16 @@ mostBytes = mostRows * 32
 abbrev pub isSmall : Bytes → Bool
 isSmall s = leb (length s) mostBytes
 
+-- the record has the parts of its operation, and in slice 1 a table that is small
+abbrev pub wellFormed : Bytes → ℕ → ℕ → Bool
+wellFormed s slices rest = hasParts s slices rest && isSmall (sliceOf s 1)
+
 -- so many bytes: those of the slice, and 0 past its end
 abbrev pub copied : Bytes → Bytes
 copied s = tabulate mostBytes (row s)
+
+-- ---- columns
+
+-- the columns are slices i, j and k
+unfoldable pub columnsAgree : Bytes → ℕ → ℕ → ℕ → Column → Column → Column → Bool
+columnsAgree s i j k signal weak strong = same signal (sliceOf s i) && (same weak (sliceOf s j) && same strong (sliceOf s k))

@@ -1,12 +1,13 @@
 // The parts of a record, and a copy of one. Each function is total: a byte past the end is 0, and a slice past the end is cut off there.
 use columns::byte_at;
+use columns::same;
 use places::Pos;
 use world::row::pos_of;
 ghost use mathlib.Core.Path.{_≡_};
 ghost use Prim.Native.Nat.{_<_};
 ghost use lib.ListN.{take, drop};
 ghost use lib.IntN.{ℤ};
-ghost use Rattle.records.specs.Record.{half, word, long, entry, posAt, partsFrom, after, sliceOf, number, hasParts, copied};
+ghost use Rattle.records.specs.Record.{half, word, long, entry, posAt, partsFrom, after, sliceOf, number, hasParts, wellFormed, columnsAgree, copied};
 
 // The bytes of a table of the most rows.
 pub const MOST_BYTES: usize = 2048;
@@ -124,6 +125,28 @@ pub fn has_parts(s: &[u8], slices: u8, rest: usize) -> bool
     ensures { λ r. ⌜ r ≡ hasParts (now (s .entry)) slices rest ⌝ }
 {
     (byte_at(s, 1) == 0) & ((parts_from(s, slices) <= s.len()) & (after(s, slices).len() == rest))
+}
+
+// Whether a record has so many slices and bytes after them, and in slice 1 a table of at most the most rows.
+pub fn well_formed(s: &[u8], slices: u8, rest: usize) -> bool
+    ensures { λ r. ⌜ r ≡ wellFormed (now (s .entry)) slices rest ⌝ }
+{
+    has_parts(s, slices, rest) & (slice_of(s, 1).len() <= MOST_BYTES)
+}
+
+// Whether three columns are slices i, j and k.
+pub fn columns_agree(
+    s: &[u8],
+    i: u8,
+    j: u8,
+    k: u8,
+    signal: &[u8],
+    weak: &[u8],
+    strong: &[u8],
+) -> bool
+    ensures { λ r. ⌜ r ≡ columnsAgree (now (s .entry)) i j k (now (signal .entry)) (now (weak .entry)) (now (strong .entry)) ⌝ }
+{
+    same(signal, slice_of(s, i)) & (same(weak, slice_of(s, j)) & same(strong, slice_of(s, k)))
 }
 
 // The bytes of a slice in an array for a table of the most rows, for a call to change.

@@ -1,10 +1,9 @@
 -- Law: redrawing an accepted table gives an accepted table.
 -- Assumes nothing.
-use mathlib.Core.Path.{_≡_, ap, sym, _∙_}
-use mathlib.Core.Logic.{inl, inr}
+use mathlib.Core.Path.{_≡_, refl, sym, _∙_}
 use mathlib.Core.Bool.{Bool, true, false, cond, not, _&&_}
 use mathlib.Core.List.{[], _∷_}
-use Prim.Native.Nat.{ℕ, _+_, _*_, _≤_, _<_}
+use Prim.Native.Nat.{ℕ, _*_, _≤_, _<_}
 use native.Mathlib.Omega.{arith}
 use lib.Dec.{eqb}
 use lib.ListN.{length, getD, set, length-set}
@@ -16,21 +15,22 @@ use Rattle.columns.specs.Column.{Bytes, part}
 use Rattle.columns.specs.declared.Found.{Found}
 use Rattle.columns.specs.declared.Found.the-variants.{At, Nothing}
 use Rattle.columns.specs.First.{onFound}
-use Rattle.columns.proofs.Truth.{and-true}
 use Rattle.columns.proofs.Parts.{length-part, part-at}
 use Rattle.places.specs.declared.Pos.{Pos}
 use Rattle.places.specs.Places.{isHorizontal, beside}
 use Rattle.world.specs.declared.traits.BlockRedstoneTraits.{BlockRedstoneTraits}
-use Rattle.world.specs.Rows.{rows, byteOf, posOf, kindOf, shapeOf}
+use Rattle.world.specs.Rows.{rows, byteOf, kindOf, shapeOf}
 use Rattle.world.specs.Find.{find}
 use Rattle.world.specs.Traits.{ArmNone, ArmSide, ArmUp, isArm, nothing, topHalf, doubleSlab, glass, plain, ofShape, traits, traitsAt}
-use Rattle.refusals.specs.Good.{goodPlace, goodKind, goodValue, goodSupport, goodArms, goodTail, goodRow}
-use Rattle.refusals.specs.Accepted.{Table}
+use Rattle.layout.specs.Good.{goodArms}
+use Rattle.layout.proofs.Fields.{Arms as ArmsField, good-field}
+use Rattle.refusals.specs.Check.{IsAccepted}
+use Rattle.refusals.proofs.Accepted.{accepted-input}
+use Rattle.refusals.proofs.Again.{Changes, accepted-again}
 use Rattle.wire.specs.Arms.{joins, rises, drops, inferPast, inferWireConnection}
-use Rattle.wire.proofs.Alike.{Alike, same-rows, same-place}
 use Rattle.redraw.specs.declared.Arms.{Arms}
 use Rattle.redraw.specs.Redraw.{entryOf, entriesOf, left, added, withOpposite, drawn, redrawnRow, updateWireShapes}
-use Rattle.redraw.proofs.Rows.{Kept, by-kind}
+use Rattle.redraw.proofs.Rows.{isArmByte, by-kind}
 use Rattle.redraw.proofs.Redrawn.{redrawn-keeps, redrawn-alike, redrawn-at}
 
 -- ---- an entry is at most 3
@@ -152,54 +152,23 @@ module _ (r : Bytes) (a : Arms) (w : length r ≡ 32) where
 row-arms : (s : Bytes) (i : ℕ) (r : Bytes) → ((b : ℕ) → b < 32 → byteOf s i b ≡ getD r b 0) → goodArms s i ≡ goodArms r 0
 row-arms s i r h = rw (h 23 (omega arith), h 24 (omega arith), h 25 (omega arith), h 26 (omega arith), h 27 (omega arith))
 
--- the fields before the arms
-abbrev fields : Bytes → ℕ → Bool
-fields t i = goodPlace (posOf t i) && goodKind t i && goodValue t i 15 && goodValue t i 17 && goodSupport t i
+-- redrawing changes the arms alone, and they are good again
+pub redrawn-changes : (p t : Bytes) → length t ≡ rows t * 32 → Changes (λ _. isArmByte) t (updateWireShapes p t)
+redrawn-changes p t w =
+    record {
+      long = redrawn-alike p t w .long;
+      agree = λ i b l e. redrawn-keeps p t w i b (l, e);
+      places = λ i. refl;
+      good = λ i l g. rw (good-arms i l (good-field t i g ArmsField));
+    }
+  where
+    good-arms : (i : ℕ) → i < rows t → goodArms t i ≡ true → goodArms (updateWireShapes p t) i ≡ true
+    good-arms i l g =
+        let whole : length (part 32 t i) ≡ 32 = length-part 32 t i (omega arith) in
+        let old : goodArms (part 32 t i) 0 ≡ true = sym (row-arms t i (part 32 t i) (λ b h. sym (part-at 32 t i b h))) ∙ g in
+        row-arms (updateWireShapes p t) i (redrawnRow p t i) (λ b h. redrawn-at p t w i b l h)
+        ∙ by-kind p t i (λ r. goodArms r 0 ≡ true) (good-drawn (part 32 t i) _ whole (small-opposite _ (small-entries p t i))) old
 
-module _ (t u : Bytes) (i : ℕ) (kept : (b : ℕ) → Kept b → byteOf u i b ≡ byteOf t i b) where
-  low : (b : ℕ) → b < 23 → byteOf u i b ≡ byteOf t i b
-  low b h = kept b (inl h)
-
-  high : (b : ℕ) → 27 < b → b < 32 → byteOf u i b ≡ byteOf t i b
-  high b g h = kept b (inr (g, h))
-
-  same-fields : posOf u i ≡ posOf t i → fields u i ≡ fields t i
-  same-fields e =
-      rw (e, low 12 (omega arith), low 13 (omega arith), low 14 (omega arith), low 15 (omega arith), low 16 (omega arith), low 17 (omega arith), low 18 (omega arith), low 19 (omega arith), low 20 (omega arith), low 21 (omega arith), low 22 (omega arith))
-
-  same-tail : goodTail u i ≡ goodTail t i
-  same-tail =
-      rw (high 28 (omega arith) (omega arith), high 29 (omega arith) (omega arith), high 30 (omega arith) (omega arith), high 31 (omega arith) (omega arith))
-
-both : (a b : Bool) → a ≡ true → b ≡ true → (a && b) ≡ true
-both a b g h = rw (g, h)
-
-module _ (p t : Bytes) (a : Table t) where
-  good-arms : (i : ℕ) → i < rows t → goodArms t i ≡ true → goodArms (updateWireShapes p t) i ≡ true
-  good-arms i l g =
-      let whole : length (part 32 t i) ≡ 32 = length-part 32 t i (omega (arith, a .whole)) in
-      let old : goodArms (part 32 t i) 0 ≡ true = sym (row-arms t i (part 32 t i) (λ b h. sym (part-at 32 t i b h))) ∙ g in
-      row-arms (updateWireShapes p t) i (redrawnRow p t i) (λ b h. redrawn-at p t (a .whole) i b l h)
-      ∙ by-kind p t i (λ r. goodArms r 0 ≡ true) (good-drawn (part 32 t i) _ whole (small-opposite _ (small-entries p t i))) old
-
-  redrawn-good : (i : ℕ) → i < rows t → goodRow (updateWireShapes p t) i ≡ true
-  unfolding goodRow
-  redrawn-good i l =
-      let kept = redrawn-keeps p t (a .whole) i in
-      let (h5, tail) = and-true _ (goodTail t i) (a .good i l) in
-      let (h4, arms) = and-true (fields t i) (goodArms t i) h5 in
-      both (fields (updateWireShapes p t) i && goodArms (updateWireShapes p t) i) (goodTail (updateWireShapes p t) i)
-      (both (fields (updateWireShapes p t) i) (goodArms (updateWireShapes p t) i)
-      (same-fields t (updateWireShapes p t) i kept (same-place (redrawn-alike p t (a .whole)) i) ∙ h4)
-      (good-arms i l arms))
-      (same-tail t (updateWireShapes p t) i kept ∙ tail)
-
-  pub redrawn-table : Table (updateWireShapes p t)
-  redrawn-table =
-      let s : Alike (updateWireShapes p t) t = redrawn-alike p t (a .whole) in
-      record {
-        whole = s .long ∙ a .whole ∙ ap (λ n. n * 32) (sym (same-rows s));
-        few = rw (same-rows s) (a .few);
-        good = λ i l. redrawn-good i (rw (same-rows s) at l);
-        ordered = λ i l. rw (same-place s i, same-place s (i + 1)) (a .ordered i (rw (same-rows s) at l));
-      }
+-- a redrawn table is accepted where the table is
+pub redrawn-accepted : (p t : Bytes) → IsAccepted p t → IsAccepted p (updateWireShapes p t)
+redrawn-accepted p t h = accepted-again (redrawn-changes p t (accepted-input p t h .1 .whole)) p h

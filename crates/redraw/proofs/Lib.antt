@@ -2,3 +2,4 @@
 pub mod Rows
 pub mod Redrawn
 pub mod Accepted
+pub mod Answers

@@ -1,14 +1,16 @@
 -- Laws of a redrawn row, and of a table whose first rows are redrawn: it infers as it did, and so redraws as it would have.
 -- Assumes nothing.
-use mathlib.Core.Path.{_≡_, ap, _∙_}
-use mathlib.Core.Logic.{_⊎_, inl, inr, ⊎-elim, by-cases}
-use mathlib.Core.Bool.{Bool, true, false, cond}
+use mathlib.Core.Path.{_≡_, refl, ap, sym, _∙_}
+use mathlib.Core.Logic.{⊎-elim, by-cases}
+use mathlib.Core.Bool.{Bool, true, false, cond, _&&_, true≢false}
 use mathlib.Core.List.{_++_}
 use Prim.Native.Nat.{ℕ, _+_, _*_, _-_, _≤_, _<_}
 use native.Mathlib.Decide.{decLt}
 use native.Mathlib.Omega.{arith}
 use lib.ListN.{length, getD, drop, set, length-set, length-append, length-drop, List·getD-append}
 use lib.Seq.{getD-set-other, getD-drop, getD-append-add}
+use lib.Dec.{leb}
+use borrow.Author.Tests.{lt-leb}
 use Rattle.blocks.specs.Kind.{isDust}
 use Rattle.columns.specs.Column.{Bytes, part, concatRows}
 use Rattle.columns.proofs.Parts.{length-part, part-at, concatRows-at, Written, written-lent}
@@ -18,9 +20,13 @@ use Rattle.wire.proofs.Alike.{Alike, same-kind, same-place, same-infer}
 use Rattle.redraw.specs.declared.Arms.{Arms}
 use Rattle.redraw.specs.Redraw.{entryOf, entriesOf, withOpposite, drawn, redrawnRow}
 
+-- the bytes of the arms
+abbrev pub isArmByte : ℕ → Bool
+isArmByte b = leb 23 b && leb b 27
+
 -- the bytes of a row that redrawing leaves alone
 abbrev pub Kept : ℕ → Type 0
-Kept b = (b < 23) ⊎ ((27 < b) × (b < 32))
+Kept b = (b < 32) × (isArmByte b ≡ false)
 
 -- ---- one row
 
@@ -29,13 +35,13 @@ unfolding drawn
 length-drawn r a = simp length-set
 
 module _ (b : ℕ) (k : Kept b) where
-  past-arm : (s : Bytes) (n v : ℕ) → 23 ≤ n → n ≤ 27 → getD (set s n v) b 0 ≡ getD s b 0
-  past-arm s n v g h = getD-set-other s n b v 0 (λ e. ⊎-elim (λ l. omega arith) (λ l. omega arith) k)
+  past-arm : (s : Bytes) (n v : ℕ) → isArmByte n ≡ true → getD (set s n v) b 0 ≡ getD s b 0
+  past-arm s n v h = getD-set-other s n b v 0 (λ e. true≢false (sym h ∙ (rw e at (k .1))))
 
   drawn-keeps : (r : Bytes) (a : Arms) → getD (drawn r a) b 0 ≡ getD r b 0
   unfolding drawn
   drawn-keeps r a =
-      rw (past-arm _ 27 _ (omega arith) (omega arith), past-arm _ 26 _ (omega arith) (omega arith), past-arm _ 25 _ (omega arith) (omega arith), past-arm _ 24 _ (omega arith) (omega arith), past-arm _ 23 _ (omega arith) (omega arith))
+      rw (past-arm _ 27 _ refl, past-arm _ 26 _ refl, past-arm _ 25 _ refl, past-arm _ 24 _ refl, past-arm _ 23 _ refl)
 
 module _ (p t : Bytes) (i : ℕ) where
   -- a row is redrawn or as it was
@@ -55,7 +61,7 @@ module _ (p t : Bytes) (i : ℕ) where
   -- a byte that is not an arm's is as it was
   pub row-keeps : (b : ℕ) → Kept b → getD (redrawnRow p t i) b 0 ≡ byteOf t i b
   row-keeps b k =
-      let same : getD (part 32 t i) b 0 ≡ byteOf t i b = part-at 32 t i b (⊎-elim (λ l. omega arith) (λ l. omega arith) k) in
+      let same : getD (part 32 t i) b 0 ≡ byteOf t i b = part-at 32 t i b (k .0) in
       by-kind (λ r. getD r b 0 ≡ byteOf t i b) (drawn-keeps b k _ _ ∙ same) same
 
 -- ---- a table whose first i rows are redrawn
@@ -67,13 +73,10 @@ module _ (p t : Bytes) (i : ℕ) (now : Bytes) (w : Written 32 (redrawnRow p t) 
   pub half-keeps : (k b : ℕ) → Kept b → byteOf now k b ≡ byteOf t k b
   half-keeps k b o = rw (w .is) (by-cases (decLt k i) done to-do)
     where
-      small : b < 32
-      small = ⊎-elim (λ l. omega arith) (λ l. omega arith) o
-
       done : k < i → getD (concatRows i (redrawnRow p t) ++ drop (i * 32) t) (k * 32 + b) 0 ≡ byteOf t k b
       done l =
-          List·getD-append (concatRows i (redrawnRow p t)) (drop (i * 32) t) 0 (k * 32 + b) (rw (w .long) (omega (arith, small)))
-          ∙ concatRows-at 32 (redrawnRow p t) i (λ m g. length-row p t m (omega arith)) k b l small
+          List·getD-append (concatRows i (redrawnRow p t)) (drop (i * 32) t) 0 (k * 32 + b) (rw (w .long) (omega arith))
+          ∙ concatRows-at 32 (redrawnRow p t) i (λ m g. length-row p t m (omega arith)) k b l (o .0)
           ∙ row-keeps p t k b o
 
       to-do : (k < i → ⊥) → getD (concatRows i (redrawnRow p t) ++ drop (i * 32) t) (k * 32 + b) 0 ≡ byteOf t k b
@@ -87,7 +90,7 @@ module _ (p t : Bytes) (i : ℕ) (now : Bytes) (w : Written 32 (redrawnRow p t) 
 
   -- so an arm is inferred as before
   pub half-alike : Alike now t
-  half-alike = record { long = half-long; agree = λ k b r. half-keeps k b (⊎-elim (λ l. inl (omega arith)) (λ e. inr (omega arith)) r) }
+  half-alike = record { long = half-long; agree = λ k b r. half-keeps k b (⊎-elim (λ l. (omega arith, rw (lt-leb 23 b (omega arith)))) (λ e. (omega arith, rw e)) r) }
 
   same-entries : entriesOf p now i ≡ entriesOf p t i
   unfolding entriesOf entryOf

@@ -93,7 +93,7 @@ pub extern "C" fn redstone_redraw(profile: &[u8], table: &mut [u8]) -> u32
     redraw::update_wire_shapes(profile, table)
 }
 
-// The numbers of the rows whose support is missing, at the front of the column, the rest of it untouched; answers how many there are.
+// The numbers of the rows whose support is missing or does not support components, at the front of the column, the rest of it untouched; answers how many there are.
 #[no_mangle]
 pub extern "C" fn redstone_supports(profile: &[u8], table: &[u8], rows: &mut [u16]) -> u32
     ensures { λ r. ⌜ Listed (now (profile .entry)) (now (table .entry)) (now (rows .entry)) (now (rows .exit)) r ⌝ }

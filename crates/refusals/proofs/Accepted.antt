@@ -1,18 +1,17 @@
 -- Laws of an accepted table: its rows are good and in order, its positions are all different, and the look-up finds each row.
 -- Assumes nothing.
-use mathlib.Core.Path.{_≡_, refl, sym}
+use mathlib.Core.Path.{_≡_, refl, ap, sym}
 use mathlib.Core.Logic.{by-cases}
-use mathlib.Core.Bool.{Bool, true, false}
-use Prim.Native.Nat.{ℕ, zero, suc, _+_, _*_, _-_, _%_, _≤_, _<_}
+use mathlib.Core.Bool.{Bool, true, false, not}
+use Prim.Native.Nat.{ℕ, zero, suc, _+_, _-_, _%_, _<_}
 use native.Mathlib.Decide.{decLt}
 use native.Mathlib.Omega.{arith}
 use lib.ListN.{length}
 use lib.Dec.{eqb, leb}
-use borrow.Author.Tests.{eqb-true, leb-true, not-false}
+use borrow.Author.Tests.{eqb-true, eq-eqb, leb-true, le-leb, not-false}
 use Rattle.columns.specs.declared.Found.the-variants.{At}
 use Rattle.columns.specs.Column.{Bytes}
-use Rattle.columns.specs.First.{firstFrom}
-use Rattle.columns.proofs.First.{first-none, at-first}
+use Rattle.columns.proofs.First.{at-first}
 use Rattle.places.specs.declared.Pos.{Pos}
 use Rattle.places.specs.Places.{samePos, before}
 use Rattle.places.proofs.Order.{samePos-true, samePos-refl, before-irrefl, before-trans}
@@ -20,11 +19,11 @@ use Rattle.places.proofs.Steps.{InRange}
 use Rattle.world.specs.Rows.{rows, posOf}
 use Rattle.world.specs.Find.{standsAt, find}
 use Rattle.refusals.specs.declared.Checked.the-variants.{Accepted}
-use Rattle.refusals.specs.Good.{goodProfile, goodRow}
+use Rattle.layout.specs.Good.{goodProfile}
 use Rattle.refusals.specs.Accepted.{Table}
-use Rattle.refusals.specs.Check.{isBad, isMisplaced, checkRows, checkTable, checkInput}
-use Rattle.refusals.proofs.Passed.{passed-unless, passed-at}
-use Rattle.refusals.proofs.Fields.{good-fields}
+use Rattle.refusals.specs.Check.{isBad, isMisplaced, checkRows, checkTable, checkInput, IsAccepted}
+use Rattle.refusals.proofs.Passed.{passed-unless, unless-passes, passed-rows, rows-pass}
+use Rattle.layout.proofs.Fields.{Place, good-field, good-range}
 
 -- ---- an accepted table
 
@@ -33,20 +32,33 @@ unfolding checkTable checkRows
 accepted-table t h =
     let (a, g) = passed-unless 2 (eqb (length t % 32) 0) _ h in
     let (b, f) = passed-unless 3 (leb (rows t) 1024) _ g in
-    let (c, e) = passed-at 4 0 (firstFrom (isBad t) (rows t) 0) _ f in
-    let (d, _) = passed-at 5 1 (firstFrom (isMisplaced t) (rows t - 1) 0) _ e in
+    let (good, e) = passed-rows 4 0 (isBad t) (rows t) _ f in
+    let (ordered, _) = passed-rows 5 1 (isMisplaced t) (rows t - 1) _ e in
     let whole : length t % 32 ≡ 0 = eqb-true _ _ a in
     record {
       whole = omega arith;
       few = leb-true _ _ b;
-      good = λ i l. not-false _ (first-none (isBad t) (rows t) 0 c i (omega arith) (omega arith));
-      ordered = λ i l. not-false _ (first-none (isMisplaced t) (rows t - 1) 0 d i (omega arith) (omega arith));
+      good = λ i l. not-false _ (good i l);
+      ordered = λ i l. not-false _ (ordered i (omega arith));
     }
+
+-- and a table that is so is accepted
+pub table-accepted : (t : Bytes) → Table t → checkTable t ≡ Accepted
+unfolding checkTable checkRows
+table-accepted t a =
+    unless-passes 2 (eqb (length t % 32) 0) _ (eq-eqb (length t % 32) 0 (omega (arith, a .whole)))
+    (unless-passes 3 (leb (rows t) 1024) _ (le-leb _ 1024 (a .few))
+    (rows-pass 4 0 (isBad t) (rows t) _ (λ i l. ap not (a .good i l))
+    (rows-pass 5 1 (isMisplaced t) (rows t - 1) Accepted (λ i l. ap not (a .ordered i (omega arith))) refl)))
 
 -- of a call with the profile
 pub accepted-input : (p t : Bytes) → checkInput p t ≡ Accepted → (goodProfile p ≡ true) × Table t
 unfolding checkInput
 accepted-input p t h = let (a, b) = passed-unless 1 (goodProfile p) _ h in (a, accepted-table t b)
+
+pub input-accepted : (p t : Bytes) → goodProfile p ≡ true → Table t → IsAccepted p t
+unfolding checkInput
+input-accepted p t g a = rw (g, table-accepted t a)
 
 module _ (t : Bytes) (a : Table t) where
   in-order : (i k : ℕ) → i + suc k < rows t → before (posOf t i) (posOf t (i + suc k)) ≡ true
@@ -90,4 +102,4 @@ module _ (t : Bytes) (a : Table t) where
 
   -- every position is in range
   pub in-range : (i : ℕ) → i < rows t → InRange (posOf t i)
-  in-range i h = good-fields t i (a .good i h) .place
+  in-range i h = good-range (posOf t i) (good-field t i (a .good i h) Place)

@@ -1,4 +1,6 @@
--- Laws of accepted tables.
+-- Laws of accepted tables, and of answers.
 pub mod Passed
-pub mod Fields
 pub mod Accepted
+pub mod Again
+pub mod Gives
+pub mod Tells

@@ -2,13 +2,15 @@
 -- Assumes nothing.
 use mathlib.Core.Path.{_≡_, refl}
 use mathlib.Core.Bool.{Bool, true, false}
-use Prim.Native.Nat.{ℕ}
+use Prim.Native.Nat.{ℕ, _+_, _≤_, _<_}
 use native.Mathlib.Omega.{arith}
 use Rattle.columns.specs.declared.Found.{Found}
 use Rattle.columns.specs.declared.Found.the-variants.{At, Nothing}
 use Rattle.refusals.specs.declared.Checked.{Checked}
 use Rattle.refusals.specs.declared.Checked.the-variants.{Accepted, Refused}
-use Rattle.refusals.specs.Check.{refuseUnless, refuseAt, orElse, also}
+use Rattle.columns.specs.First.{firstFrom}
+use Rattle.columns.proofs.First.{first-at, first-none, none-first}
+use Rattle.refusals.specs.Check.{refuseUnless, refuseAt, RowFits, orElse, also, checkValues}
 
 pub never : {A : Type 0} {n i : ℕ} → Refused n i ≡ Accepted → A
 never e = let z : _≡_ {A = ℕ} 0 1 = cc in absurd (omega arith)
@@ -25,7 +27,43 @@ pub passed-both : (c next : Checked) → orElse c next ≡ Accepted → (c ≡ A
 passed-both Accepted next h = (refl, h)
 passed-both (Refused n i) next h = never h
 
+pub unless-passes : (n : ℕ) (b : Bool) (next : Checked) → b ≡ true → next ≡ Accepted → refuseUnless n b next ≡ Accepted
+unless-passes n b next h g = rw h g
+
+-- ---- a test of every row below k
+
+module _ (n d : ℕ) (f : ℕ → Bool) (k : ℕ) (next : Checked) where
+  pub passed-rows : refuseAt n d (firstFrom f k 0) next ≡ Accepted → ((i : ℕ) → i < k → f i ≡ false) × (next ≡ Accepted)
+  passed-rows h = let (none, g) = passed-at n d (firstFrom f k 0) next h in (λ i l. first-none f k 0 none i (omega arith) (omega arith), g)
+
+  pub rows-pass : ((i : ℕ) → i < k → f i ≡ false) → next ≡ Accepted → refuseAt n d (firstFrom f k 0) next ≡ Accepted
+  rows-pass h g = rw (none-first f k 0 (λ i _ l. h i (omega arith))) g
+
+-- the row found is below k
+pub row-fits : (f : ℕ → Bool) (k d : ℕ) → k + d ≤ 65536 → RowFits d (firstFrom f k 0)
+row-fits f k d h = go (firstFrom f k 0) refl
+  where
+    go : (x : Found) → firstFrom f k 0 ≡ x → RowFits d x
+    go (At i) e = omega (arith, first-at f k 0 i e .inside)
+    go Nothing e = tt
+
+-- ---- a column or a state: its length, and its value at every row below k
+
+module _ (sized : Bool) (f : ℕ → Bool) (k : ℕ) where
+  pub passed-values : checkValues sized f k ≡ Accepted → (sized ≡ true) × ((i : ℕ) → i < k → f i ≡ false)
+  passed-values h =
+      let (a, g) = passed-unless 6 sized _ h in
+      (a, passed-rows 6 0 f k Accepted g .0)
+
+  pub values-pass : sized ≡ true → ((i : ℕ) → i < k → f i ≡ false) → checkValues sized f k ≡ Accepted
+  values-pass h g = unless-passes 6 sized _ h (rows-pass 6 0 f k Accepted g refl)
+
 -- ---- tests in a row
+
+-- a test of rows that is made by itself, and what comes next
+pub at-else : (n d : ℕ) (f : Found) (next : Checked) → orElse (refuseAt n d f Accepted) next ≡ refuseAt n d f next
+at-else n d (At i) next = refl
+at-else n d Nothing next = refl
 
 -- one more test, after the first refusal of two, is one more after the second
 pub also-after : (a b : Checked) (n : ℕ) (passed : Bool) → also (orElse a b) n passed ≡ orElse a (also b n passed)

@@ -7,7 +7,7 @@ use lib.ListN.{length}
 use Rattle.columns.specs.Column.{Bytes}
 use Rattle.places.specs.Places.{before}
 use Rattle.world.specs.Rows.{rows, posOf}
-use Rattle.refusals.specs.Good.{goodRow}
+use Rattle.layout.specs.Good.{goodRow}
 
 -- `accepted-table` says that every table on which no refusal falls is one.
 pub record Table (t : Bytes) : Type 0 where

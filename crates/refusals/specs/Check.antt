@@ -2,7 +2,7 @@
 -- Assumes nothing.
 use mathlib.Core.Path.{_≡_}
 use mathlib.Core.Bool.{Bool, true, false, not}
-use Prim.Native.Nat.{ℕ, _+_, _*_, _-_, _%_}
+use Prim.Native.Nat.{ℕ, _+_, _*_, _-_, _%_, _<_}
 use lib.ListN.{length}
 use lib.Dec.{eqb, leb}
 use Rattle.columns.specs.declared.Found.{Found}
@@ -13,7 +13,7 @@ use Rattle.places.specs.Places.{before}
 use Rattle.world.specs.Rows.{rows, posOf}
 use Rattle.refusals.specs.declared.Checked.{Checked}
 use Rattle.refusals.specs.declared.Checked.the-variants.{Accepted, Refused}
-use Rattle.refusals.specs.Good.{goodProfile, goodRow}
+use Rattle.layout.specs.Good.{goodProfile, goodRow}
 
 -- ---- one test after the other
 
@@ -26,6 +26,11 @@ refuseUnless n false next = Refused n 0
 abbrev pub refuseAt : ℕ → ℕ → Found → Checked → Checked
 refuseAt n d (At i) next = Refused n (i + d)
 refuseAt n d Nothing next = next
+
+-- the number of that row fits 16 bits
+abbrev pub RowFits : ℕ → Found → Type 0
+RowFits d (At i) = i + d < 65536
+RowFits d Nothing = Unit {0}
 
 -- the first refusal, or what comes next
 abbrev pub orElse : Checked → Checked → Checked
@@ -62,6 +67,10 @@ checkInput p t = refuseUnless 1 (goodProfile p) (checkTable t)
 -- "A table is accepted if no refusal falls on it or on the profile the call has"
 abbrev pub IsAccepted : Bytes → Bytes → Type 0
 IsAccepted p t = checkInput p t ≡ Accepted
+
+-- 6 bad state, of a device column or a state: "wrong length or value"; "in 6 length before value", of n rows
+abbrev pub checkValues : Bool → (ℕ → Bool) → ℕ → Checked
+checkValues sized isBadValue n = refuseUnless 6 sized (refuseAt 6 0 (firstFrom isBadValue n 0) Accepted)
 
 -- ---- what a call answers and writes
 

@@ -1,12 +1,12 @@
 // The refusals: which of them falls on the inputs of a call, and the number that the call answers then.
-pub mod good;
 mod scan;
 
 use columns::Found;
 ghost use mathlib.Core.Path.{_≡_};
 ghost use Prim.Native.Nat.{_≤_};
 ghost use lib.ListN.{length};
-ghost use Rattle.refusals.specs.Check.{checkRows, checkTable, checkInput, also, answerOf};
+ghost use Rattle.refusals.specs.declared.Checked.the-variants as Checked;
+ghost use Rattle.refusals.specs.Check.{refuseUnless, refuseAt, RowFits, orElse, also, checkRows, checkTable, checkInput, answerOf};
 
 // Whether the inputs are accepted, or the number of the refusal that falls on them and the row at fault.
 pub enum Checked {
@@ -14,25 +14,56 @@ pub enum Checked {
     Refused { number: u8, row: u16 },
 }
 
-// Refusals 4 and 5, over the rows of a table that is not crowded.
+// The refusal of a test that fails.
+fn refuse_unless(number: u8, passed: bool) -> Checked
+    ensures { λ r. ⌜ r ≡ refuseUnless number passed Checked.Accepted ⌝ }
+{
+    if passed {
+        return Checked::Accepted;
+    }
+    Checked::Refused { number, row: 0 }
+}
+
+// The refusal at the row found, so many rows on.
+pub fn refuse_at(number: u8, found: Found, on: usize) -> Checked
+    requires { ⌜ RowFits on found ⌝ }
+    ensures { λ r. ⌜ r ≡ refuseAt number on found Checked.Accepted ⌝ }
+{
+    let Found::At(i) = found else {
+        return Checked::Accepted;
+    };
+    Checked::Refused {
+        number,
+        row: (i + on) as u16,
+    }
+}
+
+// The first refusal of two.
+pub fn or_else(checked: Checked, next: Checked) -> Checked
+    ensures { λ r. ⌜ r ≡ orElse checked next ⌝ }
+{
+    if let Checked::Refused { number: _, row: _ } = checked {
+        return checked;
+    }
+    next
+}
+
+// One test more, after those that were made already.
+pub fn also(checked: Checked, number: u8, passed: bool) -> Checked
+    ensures { λ r. ⌜ r ≡ also checked number passed ⌝ }
+{
+    or_else(checked, refuse_unless(number, passed))
+}
+
+// Refusals 4 and 5, over the rows of a table that is not crowded, so that the number of a row fits.
 fn check_rows(table: &[u8]) -> Checked
     requires { ⌜ length (now table) ≤ 32768 ⌝ }
     ensures { λ r. ⌜ r ≡ checkRows (now (table .entry)) ⌝ }
 {
     let rows = world::row::rows(table);
-    if let Found::At(i) = scan::first_bad(table, rows) {
-        return Checked::Refused {
-            number: 4,
-            row: i as u16,
-        };
-    }
-    if let Found::At(i) = scan::first_misplaced(table, rows) {
-        return Checked::Refused {
-            number: 5,
-            row: (i + 1) as u16,
-        };
-    }
-    Checked::Accepted
+    let bad = refuse_at(4, scan::first_bad(table, rows), 0);
+    let misplaced = refuse_at(5, scan::first_misplaced(table, rows), 1);
+    or_else(bad, misplaced)
 }
 
 // Refusals 2 to 5.
@@ -52,23 +83,10 @@ pub fn check_table(table: &[u8]) -> Checked
 pub fn check_input(profile: &[u8], table: &[u8]) -> Checked
     ensures { λ r. ⌜ r ≡ checkInput (now (profile .entry)) (now (table .entry)) ⌝ }
 {
-    if good::good_profile(profile) {
+    if layout::good_profile(profile) {
         return check_table(table);
     }
     Checked::Refused { number: 1, row: 0 }
-}
-
-// One test more, after those that were made already.
-pub fn also(checked: Checked, number: u8, passed: bool) -> Checked
-    ensures { λ r. ⌜ r ≡ also checked number passed ⌝ }
-{
-    if let Checked::Refused { number: _, row: _ } = checked {
-        return checked;
-    }
-    if passed {
-        return checked;
-    }
-    Checked::Refused { number, row: 0 }
 }
 
 // The number that a call answers: 65,536 times the refusal's number plus the row, or the result of a call that is not refused.

@@ -1,6 +1,6 @@
 // The first row at fault.
-use crate::good::good_row;
 use columns::Found;
+use layout::good_row;
 use world::row::pos_of;
 ghost use mathlib.Core.Path.{_≡_};
 ghost use Prim.Native.Nat.{_-_, _<_};

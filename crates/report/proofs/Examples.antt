@@ -1,25 +1,13 @@
--- Worked examples of the text, computed: numbers, lines and refusals.
+-- Worked examples of the whole text, computed: the refusals that no profile and no table are asked for.
 -- Assumes nothing.
-use mathlib.Core.Path.{_≡_, refl}
+use mathlib.Core.Path.{_≡_}
 use Prim.Native.Nat.{_≤_, _<_}
 use lib.ListN.{length}
-use lib.IntN.{pos, negsuc}
 use Rattle.columns.specs.Column.{Bytes}
-use Rattle.places.specs.Places.{cell}
-use Rattle.report.specs.Text.{ascii, decimalWithin, decimalOf, signedText, lineOf, rowText, refusalText, settleText}
+use Rattle.text.specs.Text.{ascii, decimalWithin, decimalOf, lineOf}
+use Rattle.lines.specs.Lines.{refusalText}
+use Rattle.report.specs.Text.{settleText}
 use Rattle.report.proofs.Run.{crowded-text, short-text}
-
-largest : decimalOf 18446744073709551615 ≡ ascii "18446744073709551615"
-unfolding decimalOf decimalWithin
-largest = refl
-
-row-line : rowText (cell (negsuc 999999) (pos 0) (negsuc 0)) 200 15 0 ≡ ascii "row=-1000000,0,-1,200,15,0\n"
-unfolding rowText signedText decimalOf decimalWithin
-row-line = refl
-
-refusal-lines : refusalText 5 1023 ≡ ascii "refusal=5\nplace=1023\n"
-unfolding refusalText lineOf decimalOf decimalWithin
-refusal-lines = refl
 
 -- fewer bytes than a profile has
 short : (input : Bytes) → length input < 13 → settleText input ≡ ascii "refusal=1\nplace=0\n"

@@ -3,76 +3,36 @@
 use mathlib.Core.Path.{_≡_, refl}
 use mathlib.Core.Bool.{Bool, true, false, cond}
 use mathlib.Core.Logic.{by-cases}
-use Prim.Native.Nat.{ℕ, zero, suc, _+_, _*_, _-_, _%_, _≤_, _<_, zero-le}
-use native.Mathlib.Nat.{suc-mul, zero-add, add-zero}
+use Prim.Native.Nat.{ℕ, _+_, _*_, _-_, _%_, _≤_, _<_, zero-le}
 use native.Mathlib.Decide.{decLt}
 use native.Mathlib.Omega.{arith}
 use lib.ListN.{length, getD, length-append, List·getD-eq-default}
 use lib.Seq.{getD-drop}
 use lib.Dec.{eqb, leb}
-use lib.IntN.{ℤ, pos, negsuc}
-use lib.Signed.{mag}
 use borrow.Author.Tests.{leb-true}
 use Rattle.columns.specs.declared.Found.{Found}
 use Rattle.columns.specs.declared.Found.the-variants.{At, Nothing}
-use Rattle.columns.specs.Column.{Bytes, row, tabulate, concatRowsFrom, concatRows}
+use Rattle.columns.specs.Column.{Bytes, row, tabulate}
 use Rattle.columns.specs.First.{firstFrom}
 use Rattle.columns.proofs.Columns.{length-tabulate, row-tabulate}
 use Rattle.columns.proofs.First.{first-at}
-use Rattle.places.specs.declared.Pos.{Pos}
-use Rattle.places.proofs.Steps.{InRange}
 use Rattle.blocks.specs.Kind.{RedstoneTorch, Repeater, Comparator}
 use Rattle.world.specs.Rows.{rows, byteOf, posOf, kindOf, poweredOf, isPowered}
 use Rattle.refusals.specs.declared.Checked.{Checked}
 use Rattle.refusals.specs.declared.Checked.the-variants.{Accepted, Refused}
-use Rattle.refusals.specs.Good.{goodProfile}
+use Rattle.layout.specs.Good.{goodProfile}
 use Rattle.refusals.specs.Check.{refuseUnless, refuseAt, isBad, isMisplaced, checkRows, checkTable, checkInput}
 use Rattle.refusals.proofs.Accepted.{accepted-input, in-range}
 use Rattle.electrical.specs.Answer.{roundsOf, settled}
 use Rattle.electrical.proofs.Demand.{rounds-range, settled-bounded}
-use Rattle.states.specs.Fresh.{freshDevice}
+use Rattle.fresh.specs.Fresh.{freshDevice}
 use Rattle.updates.specs.State.{freshDevices}
-use Rattle.report.specs.Text.{ascii, signedText, rowOf, profileOf, tableOf, lineOf, rowText, refusalText, textOf, settledText, runText, checkRun, settleText, room}
-use Rattle.report.proofs.Digits.{decimal-few}
+use Rattle.text.specs.Text.{ascii}
+use Rattle.text.proofs.Lengths.{line-few, concatRows-few}
+use Rattle.lines.specs.Lines.{rowOf, refusalText, settledText}
+use Rattle.lines.proofs.Lengths.{row-few, refusal-few}
+use Rattle.report.specs.Text.{profileOf, tableOf, textOf, runText, checkRun, settleText, room}
 use Rattle.report.proofs.Run.{run-accepted, run-refused, crowded-text, whole-text}
-
--- ---- lines
-
-signed-few : (z : ℤ) → mag z ≤ 1000000 → length (signedText z) ≤ 8
-unfolding signedText
-signed-few (pos n) h = omega (arith, decimal-few n 6 (omega arith))
-signed-few (negsuc n) h = omega (arith, decimal-few (suc n) 6 (omega arith))
-
-row-few : (q : Pos) (signal weak strong : ℕ) → InRange q → signal ≤ 255 → weak ≤ 255 → strong ≤ 255 → length (rowText q signal weak strong) ≤ 43
-unfolding rowText
-row-few q signal weak strong r hs hw hg =
-    simp length-append
-    (omega (
-      arith,
-      signed-few (q .x) (r .x),
-      signed-few (q .y) (r .y),
-      signed-few (q .z) (r .z),
-      decimal-few signal 2 (omega arith),
-      decimal-few weak 2 (omega arith),
-      decimal-few strong 2 (omega arith),
-    ))
-
-line-few : (name : Bytes) (n : ℕ) → n < 10000 → length (lineOf name n) ≤ length name + 5
-unfolding lineOf
-line-few name n h = simp length-append (omega (arith, decimal-few n 3 h))
-
-module _ (w : ℕ) (f : ℕ → Bytes) where
-  from-few : (n i : ℕ) → ((k : ℕ) → k < n → length (f (i + k)) ≤ w) → length (concatRowsFrom i n f) ≤ n * w
-  unfolding concatRowsFrom
-  from-few zero i h = zero-le
-  from-few (suc n) i h =
-      let first : length (f i) ≤ w = rw (add-zero i) at (h 0 (omega arith)) in
-      let rest : length (concatRowsFrom (suc i) n f) ≤ n * w =
-      from-few n (suc i) (λ k l. let e : suc i + k ≡ i + suc k = omega arith in rw e (h (suc k) (omega arith))) in
-      rw (length-append, suc-mul) (omega arith)
-
-  concatRows-few : (n : ℕ) → ((k : ℕ) → k < n → length (f k) ≤ w) → length (concatRows n f) ≤ n * w
-  concatRows-few n h = from-few n 0 (λ k l. rw (zero-add k) (h k l))
 
 -- ---- the text of an accepted table
 
@@ -108,7 +68,7 @@ module _ (t : Bytes) (bytes : (i : ℕ) → getD t i 0 ≤ 255) where
       let lines = concatRows-few 43 (rowOf t (s .signal) (s .weak) (s .strong)) (rows t)
       (λ i l. row-few (posOf t i) _ _ _ (in-range t table i l) (level .signal i) (level .weak i) (level .strong i)) in
       rw (length-append, length-append)
-      (omega (arith, lines, table .few, line-few (ascii "blocks=") (rows t) (omega (arith, table .few)), line-few (ascii "rounds=") (roundsOf p t d) (omega (arith, rounds-range p t d))))
+      (omega (arith, lines, table .few, line-few (ascii "blocks=") (rows t) 3 (omega (arith, table .few)), line-few (ascii "rounds=") (roundsOf p t d) 1 (omega (arith, rounds-range p t d))))
 
 -- ---- the text of a refusal
 
@@ -140,11 +100,6 @@ small-input p t =
     (λ k e. omega (arith, first-at (isMisplaced t) (rows t - 1) 0 k e .inside, leb-true (rows t) 1024 few))
     tt))))
 
-refusal-few : (n i : ℕ) → n ≤ 9 → i ≤ 1024 → length (refusalText n i) ≤ room
-unfolding refusalText
-refusal-few n i g h =
-    rw length-append (omega (arith, line-few (ascii "refusal=") n (omega arith), line-few (ascii "place=") i (omega arith)))
-
 -- ---- the text of the whole input
 
 run-fits : (p t : Bytes) → ((i : ℕ) → getD t i 0 ≤ 255) → length (textOf (checkRun p t) (runText p t)) ≤ room
@@ -152,11 +107,11 @@ run-fits p t bytes = go (checkInput p t) refl (small-input p t)
   where
     go : (c : Checked) → checkInput p t ≡ c → Small c → length (textOf (checkRun p t) (runText p t)) ≤ room
     go Accepted e s = rw (run-accepted p t e) (settled-few t bytes p e)
-    go (Refused n i) e s = rw (run-refused p t e) (refusal-few n i (s .0) (s .1))
+    go (Refused n i) e s = rw (run-refused p t e) (omega (arith, refusal-few n i (omega (arith, s .0)) (omega (arith, s .1))))
 
 pub text-fits : (input : Bytes) → ((i : ℕ) → getD input i 0 ≤ 255) → length (settleText input) ≤ room
 text-fits input bytes =
-    by-cases (decLt 32781 (length input)) (λ l. rw (crowded-text input l) (refusal-few 3 0 (omega arith) (omega arith)))
+    by-cases (decLt 32781 (length input)) (λ l. rw (crowded-text input l) (omega (arith, refusal-few 3 0 (omega arith) (omega arith))))
     (λ n.
     rw (whole-text input (omega arith))
     (run-fits (profileOf input) (tableOf input) (λ i. rw (getD-drop 13 input i 0) (bytes (13 + i)))))

@@ -1,7 +1,4 @@
--- Laws of the text and of its writing.
-pub mod Digits
-pub mod Putting
-pub mod Signs
+-- Laws of a run and of the length of its text.
 pub mod Run
 pub mod Length
 mod Examples

@@ -9,16 +9,17 @@ use borrow.Author.Tests.{eq-eqb, ne-eqb, le-leb, lt-leb}
 use Rattle.columns.specs.Column.{Bytes}
 use Rattle.world.specs.Rows.{rows}
 use Rattle.refusals.specs.declared.Checked.the-variants.{Accepted, Refused}
-use Rattle.refusals.specs.Good.{goodProfile}
+use Rattle.layout.specs.Good.{goodProfile}
 use Rattle.refusals.specs.Check.{checkInput}
 use Rattle.refusals.proofs.Accepted.{accepted-input}
 use Rattle.electrical.specs.Answer.{checkCall, checkSettle}
 use Rattle.electrical.proofs.Demand.{never-unsettled}
 use Rattle.updates.specs.State.{freshDevices}
-use Rattle.sim.proofs.Valid.{fresh-devices-valid}
+use Rattle.running.proofs.Valid.{fresh-devices-valid}
 use Rattle.updates.specs.Calls.{checkFresh}
-use Rattle.report.specs.Text.{refusalText, textOf, profileOf, tableOf, checkRun, checkWhole, runText, settleText}
-use Rattle.report.specs.Put.{Lent}
+use Rattle.lines.specs.Lines.{refusalText}
+use Rattle.report.specs.Text.{textOf, profileOf, tableOf, checkRun, checkWhole, runText, settleText}
+use Rattle.report.specs.Lent.{Lent}
 
 -- ---- what falls on a run
 

@@ -1,7 +1,4 @@
 // The text that the program `settle` writes, as a function of the whole of its input.
-mod lines;
-mod put;
-
 use refusals::Checked;
 use world::row;
 ghost use mathlib.Core.Path.{_≡_};
@@ -10,8 +7,9 @@ ghost use lib.ListN.{length};
 ghost use Rattle.world.specs.Rows.{rows};
 ghost use Rattle.refusals.specs.declared.Checked.the-variants.{Accepted};
 ghost use Rattle.refusals.specs.Check.{checkInput};
+ghost use Rattle.text.specs.Put.{Puts};
 ghost use Rattle.report.specs.Text.{checkRun, runText, textOf, settleText, room, Reports};
-ghost use Rattle.report.specs.Put.{Puts, Lent};
+ghost use Rattle.report.specs.Lent.{Lent};
 
 // Where a buffer has this many bytes, the text has room in it.
 pub const ROOM: usize = 65536;

@@ -14,6 +14,7 @@ use Rattle.network.specs.Network.{Network, strongOf, weakOf, level, signals, em
 use Rattle.network.specs.Settled.{roundsOf, settled}
 use Rattle.network.specs.Laws.Loop.{Unanswered, Answered, repeats, unanswered-start, answered-next, unanswered-next, unanswered-out}
 use Rattle.blocks.specs.Kind.{isDust}
+use Rattle.world.specs.declared.signal.Rounds.{Rounds}
 use Rattle.world.specs.Rows.{rows, kindOf}
 use Rattle.refusals.specs.declared.Checked.the-variants.{Accepted}
 use Rattle.refusals.specs.Check.{refuseUnless}
@@ -23,7 +24,7 @@ use Rattle.electrical.proofs.Demand.{on-map}
 use Rattle.gather.proofs.Slotted.{arriving-feeders, arriving-unders}
 use Rattle.round.specs.Round.{slotted, nextSignal, nextWeak, firstSignal}
 use Rattle.rounds.specs.Prepared.{Prepared}
-use Rattle.rounds.specs.Outcome.{outcomeOf, writtenBy, RunsRounds, Solves}
+use Rattle.rounds.specs.Outcome.{settledIn, outcomeOf, writtenBy, RunsRounds, Solves}
 use Rattle.rounds.specs.declared.Outcome.{Outcome}
 use Rattle.rounds.specs.declared.Outcome.the-variants.{Settled, Unsettled}
 
@@ -102,8 +103,12 @@ pub record Turning (p t : Bytes) (e : Column) (empty : Bool) (limit : ℕ) (s0 w
 
 -- ---- the end of the loop
 
+-- the rounds that an outcome holds
+pub settled-count : {r : Outcome} {n : ℕ} {k : Rounds} → r ≡ settledIn n → r ≡ Settled k → k .count ≡ n
+settled-count e f = cc
+
 module _ {N : Network} {e : Column} {limit : ℕ} where
-  pub ran-settled : {k : ℕ} {s w : Column} → Answered N e (strongOf N e) k s w → k ≤ limit → RunsRounds N e limit s w (Settled k)
+  pub ran-settled : {k : ℕ} {s w : Column} → Answered N e (strongOf N e) k s w → k ≤ limit → RunsRounds N e limit s w (settledIn k)
   unfolding outcomeOf
   ran-settled {k} h l = record { answer = rw (h .rounds, le-leb k limit l); levels = λ _. rw (h .rounds) h }
 
@@ -119,7 +124,7 @@ module _ {N : Network} {e : Column} {limit : ℕ} where
     unfolding outcomeOf
     solves = record { answer = h .answer; columns = go (leb (roundsOf N e) limit) refl (h .answer) }
       where
-        go : (d : Bool) → leb (roundsOf N e) limit ≡ d → r ≡ cond d (Settled (roundsOf N e)) Unsettled
+        go : (d : Bool) → leb (roundsOf N e) limit ≡ d → r ≡ cond d (settledIn (roundsOf N e)) Unsettled
             → Columns (refuseUnless 8 d Accepted) (settled N e) signal weak strong signal′ weak′ strong′
         go true l q =
             let n = h .levels (leb-true _ _ l) in

@@ -15,9 +15,13 @@ use Rattle.electrical.specs.Answer.{Columns}
 use Rattle.rounds.specs.declared.Outcome.{Outcome}
 use Rattle.rounds.specs.declared.Outcome.the-variants.{Settled, Unsettled}
 
+-- settled in n rounds
+abbrev pub settledIn : ℕ → Outcome
+settledIn n = Settled (record { count = n })
+
 -- the round that answers, unless the limit is below it
 unfoldable pub outcomeOf : ℕ → ℕ → Outcome
-outcomeOf rounds limit = cond (leb rounds limit) (Settled rounds) Unsettled
+outcomeOf rounds limit = cond (leb rounds limit) (settledIn rounds) Unsettled
 
 -- 8 unsettled: "limit below the rounds needed"
 abbrev pub limited : ℕ → ℕ → Checked

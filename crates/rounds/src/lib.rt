@@ -1,8 +1,10 @@
 // The rounds in code, over columns prepared before, which they require: `solver` prepares them once a settling.
 pub mod settle;
 
+use world::signal::Rounds;
+
 // How settling ends: by the round that answers, or at the limit.
 pub enum Outcome {
-    Settled { rounds: u32 },
+    Settled { rounds: Rounds },
     Unsettled,
 }

@@ -5,6 +5,7 @@ use round::copy;
 use round::first_signals;
 use round::next_signals;
 use round::next_weaks;
+use world::signal::Rounds;
 ghost use mathlib.Core.Path.{_≡_};
 ghost use lib.ListN.{length};
 ghost use Rattle.columns.specs.Column.{tabulate};
@@ -47,7 +48,9 @@ fn run(
         let answered = answers(empty, rounds, s0, w0, s1, w1);
         rounds += 1;
         if answered {
-            return Outcome::Settled { rounds };
+            return Outcome::Settled {
+                rounds: Rounds { count: rounds },
+            };
         }
         copy(s1, s0);
         copy(w1, w0);

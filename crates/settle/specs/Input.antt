@@ -1,4 +1,5 @@
--- How many bytes a read answers.
+-- How many bytes a read answers. That the bytes are those of the input cannot be said: the contracts of read and write do not speak of the bytes that
+-- they move. So what the program reads and writes is tested, and only the text for what was read is proved.
 -- Assumes nothing.
 use Prim.Native.Nat.{ℕ, _≤_}
 use Rattle.settle.specs.declared.Input.{Input}

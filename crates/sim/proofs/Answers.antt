@@ -12,8 +12,9 @@ use Rattle.refusals.specs.Check.{answerOf}
 use Rattle.electrical.specs.Answer.{roundsOf, settled, Columns}
 use Rattle.updates.specs.State.{devicesOf, freshDevices, freshState}
 use Rattle.updates.specs.Tick.{ticks}
-use Rattle.sim.specs.Running.{HoldsSettled, Settled}
-use Rattle.updates.specs.Calls.{checkFresh, checkStep, checkTick, switched, Fresh, Ticks, Switches}
+use Rattle.running.specs.Running.{HoldsSettled, Settled}
+use Rattle.switching.specs.Switch.{switched}
+use Rattle.updates.specs.Calls.{checkFresh, checkStep, checkTick, Fresh, Ticks, Switches}
 
 -- ---- the columns that a call leaves on which c falls
 

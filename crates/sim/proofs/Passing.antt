@@ -19,10 +19,12 @@ use Rattle.rounds.specs.Prepared.{Outputs}
 use Rattle.rounds.proofs.Lending.{outputs, length-zeros, fits}
 use Rattle.wire.proofs.Alike.{same-rows}
 use Rattle.updates.specs.State.{devicesOf, IsValidState, checkState}
-use Rattle.sim.specs.Running.{ColumnLengths, Ready, HoldsSettled}
-use Rattle.updates.specs.Calls.{checkFresh, checkStep, checkTick, switched}
-use Rattle.sim.proofs.Valid.{valid-state, devices-of-valid}
-use Rattle.sim.proofs.Switching.{switched-alike, switched-accepted, switched-devices, switched-valid}
+use Rattle.running.specs.Running.{ColumnLengths, Ready, HoldsSettled}
+use Rattle.switching.specs.Switch.{switched}
+use Rattle.updates.specs.Calls.{checkFresh, checkStep, checkTick}
+use Rattle.running.proofs.Valid.{valid-state, devices-of-valid}
+use Rattle.switching.proofs.Switched.{switched-alike, switched-accepted}
+use Rattle.sim.proofs.Switching.{switched-devices, switched-valid}
 
 -- ---- what a call has that passes its checks
 

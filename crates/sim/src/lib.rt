@@ -1,7 +1,5 @@
 // The tick simulator: `RedstoneTickSimulator`, over a state of sixteen bytes a row. The calls check all that they are given before they
 // write anything.
-mod run;
-
 use places::Pos;
 use refusals::Checked;
 use updates::check;
@@ -33,7 +31,7 @@ pub fn fresh(
     }
     let mut devices = [0u8; 1024];
     let n = rows(table);
-    run::new_state(
+    running::new_state(
         profile,
         table,
         state,
@@ -72,7 +70,7 @@ pub fn tick(
     }
     let mut devices = [0u8; 1024];
     let n = rows(table);
-    run::settle_ticks(
+    running::settle_ticks(
         profile,
         table,
         ticks,
@@ -110,10 +108,10 @@ pub fn switch(
     if let Checked::Refused { number: _, row: _ } = checked {
         return refusals::answer(checked, 0);
     }
-    updates::switch::set_powered(table, Pos::new(x, y, z), powered);
+    switching::set_powered(table, Pos::new(x, y, z), powered);
     let mut devices = [0u8; 1024];
     let n = rows(table);
-    run::settle_state(
+    running::settle_state(
         profile,
         table,
         state,

@@ -15,9 +15,9 @@ use Rattle.refusals.proofs.Accepted.{accepted-input}
 use Rattle.electrical.specs.Emitted.{checkDevices}
 use Rattle.electrical.specs.Answer.{roundsOf, settled, goodColumns, checkCall, checkSettle, Settles}
 use Rattle.rounds.specs.declared.Outcome.{Outcome}
-use Rattle.rounds.specs.declared.Outcome.the-variants.{Settled, Unsettled}
+use Rattle.rounds.specs.declared.Outcome.the-variants.{Unsettled}
 use Rattle.rounds.specs.Prepared.{Outputs}
-use Rattle.rounds.specs.Outcome.{outcomeOf, Solves}
+use Rattle.rounds.specs.Outcome.{settledIn, outcomeOf, Solves}
 use Rattle.rounds.proofs.Lending.{outputs}
 use Rattle.solver.specs.Answer.{answerBy}
 
@@ -44,7 +44,7 @@ module _ (p t : Bytes) (d signal weak strong : Column) where
     answers-solved {limit} {r = r} h s =
         record { answer = rw (passes h) (go (leb (roundsOf p t d) limit) (s .answer)); columns = rw (passes h) (s .columns) }
       where
-        go : (b : Bool) → r ≡ cond b (Settled (roundsOf p t d)) Unsettled → answerBy r ≡ answerOf (refuseUnless 8 b Accepted) (roundsOf p t d)
+        go : (b : Bool) → r ≡ cond b (settledIn (roundsOf p t d)) Unsettled → answerBy r ≡ answerOf (refuseUnless 8 b Accepted) (roundsOf p t d)
         go true e = rw e
         go false e = rw e
 

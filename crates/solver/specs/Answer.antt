@@ -7,5 +7,5 @@ use Rattle.rounds.specs.declared.Outcome.{Outcome}
 use Rattle.rounds.specs.declared.Outcome.the-variants.{Settled, Unsettled}
 
 abbrev pub answerBy : Outcome → ℕ
-answerBy (Settled rounds) = rounds
+answerBy (Settled rounds) = rounds .count
 answerBy Unsettled = answerOf (Refused 8 0) 0

@@ -57,7 +57,7 @@ fn answer_by(outcome: Outcome) -> u32
     ensures { λ r. ⌜ r ≡ answerBy outcome ⌝ }
 {
     match outcome {
-        Outcome::Settled { rounds } => rounds,
+        Outcome::Settled { rounds } => rounds.count,
         Outcome::Unsettled => answer(Checked::Refused { number: 8, row: 0 }, 0),
     }
 }

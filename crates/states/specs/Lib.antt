@@ -1,3 +1,1 @@
--- The state of a row, and the fresh one.
 pub mod Row
-pub mod Fresh

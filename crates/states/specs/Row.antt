@@ -10,9 +10,6 @@ use Rattle.blocks.specs.Kind.{RedstoneTorch, Repeater, RedstoneLamp}
 use Rattle.world.specs.Rows.{kindOf, delayOr}
 use Rattle.electrical.specs.Emitted.{goodDevice}
 
-abbrev pub number : Bool → ℕ
-number b = cond b 1 0
-
 -- ---- the fields of a row's sixteen bytes r
 
 -- 0: "device byte"

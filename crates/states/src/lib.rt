@@ -1,5 +1,3 @@
-// One row's sixteen bytes of state: their fields, whether they are valid, and the fresh ones.
+// One row's sixteen bytes of state: their fields, and whether they are valid.
 pub mod bits;
-pub mod fresh;
-pub mod level;
 pub mod row;

@@ -1,4 +1,4 @@
--- Laws of the steps of a row: they keep its length, they read no more than the three columns, and a candidate stays one.
+-- Laws of the steps of a row: they keep its length, a lamp's leaves the device alone, and a candidate stays one.
 -- Assumes nothing.
 use mathlib.Core.Path.{_≡_, refl, _∙_}
 use mathlib.Core.Bool.{Bool, true, false, cond, not}
@@ -9,15 +9,14 @@ use lib.ListN.{length, set, length-set}
 use lib.Dec.{eqb}
 use lib.Seq.{getD-set-same, getD-set-other}
 use Rattle.columns.specs.Column.{Bytes, Column}
-use Rattle.network.specs.Network.{State}
 use Rattle.blocks.specs.Kind.{RedstoneTorch, Repeater, Comparator, RedstoneLamp}
 use Rattle.world.specs.Rows.{kindOf}
-use Rattle.connectivity.specs.declared.Sides.{Sides}
-use Rattle.connectivity.specs.declared.Sides.the-variants.{Both, Neither}
-use Rattle.connectivity.specs.Ports.{sidesOf}
-use Rattle.states.specs.Row.{number, deviceOf, togglesOf, candidateOf, isCandidate}
-use Rattle.states.specs.Fresh.{numbersOf, powersOf}
-use Rattle.devices.specs.Step.{repeaterInputLevel, isRequested, isLocked, repeaterRow, torchSupportIsPowered, nextTorch, nextToggles, nextCandidate, setToggles, torchRow, sideLevel, nextComparator, deviceRow, lampRow}
+use Rattle.levels.specs.Numbers.{Numbers, number}
+use Rattle.states.specs.Row.{deviceOf, togglesOf, candidateOf, isCandidate}
+use Rattle.repeater.specs.Step.{isLocked, repeaterRow}
+use Rattle.torch.specs.Step.{nextTorch, nextToggles, nextCandidate, setToggles, torchRow}
+use Rattle.lamp.specs.Step.{lampRow}
+use Rattle.devices.specs.Step.{deviceRow}
 
 -- what holds of both choices holds of the one taken
 choose : (P : Bytes → Type 0) (b : Bool) {x y : Bytes} → P x → P y → P (cond b x y)
@@ -37,19 +36,35 @@ length-toggles r x w = simp length-set
 raised : (q r : Bytes) (n m : ℕ) → length q ≡ length r → 8 < length r → n ≤ candidateOf (set q 8 (max n m))
 raised q r n m e h = rw (getD-set-same q 8 (max n m) 0 (rw e h)) (le-max-left n m)
 
--- the levels of the sides are the same in two states whose three columns are
-sides-read : (t : Bytes) (s : State) (x : Sides) → sideLevel t (numbersOf (s .signal) (s .weak) (s .strong)) x ≡ sideLevel t s x
-sides-read t s (Both a b) = refl
-sides-read t s Neither = refl
+-- ---- a lamp's step
 
-module _ (p t : Bytes) (d : Column) (s : State) (i : ℕ) (r : Bytes) where
-  -- ---- lengths
+module _ (t : Bytes) (weak strong : Column) (i : ℕ) (r : Bytes) where
+  pub length-lamp : length (lampRow t weak strong i r) ≡ length r
+  unfolding lampRow
+  length-lamp = choose (λ x. length x ≡ length r) (eqb (kindOf t i) RedstoneLamp) (length-two r 2 3 _ _) refl
 
+  pub lamp-device : deviceOf (lampRow t weak strong i r) ≡ deviceOf r
+  unfolding lampRow
+  lamp-device =
+      choose (λ x. deviceOf x ≡ deviceOf r) (eqb (kindOf t i) RedstoneLamp)
+      (getD-set-other (set r 2 _) 3 0 _ 0 (λ e. omega arith) ∙ getD-set-other r 2 0 _ 0 (λ e. omega arith))
+      refl
+
+  pub lamp-candidate : candidateOf (lampRow t weak strong i r) ≡ candidateOf r
+  unfolding lampRow
+  lamp-candidate =
+      choose (λ x. candidateOf x ≡ candidateOf r) (eqb (kindOf t i) RedstoneLamp)
+      (getD-set-other (set r 2 _) 3 8 _ 0 (λ e. omega arith) ∙ getD-set-other r 2 8 _ 0 (λ e. omega arith))
+      refl
+
+-- ---- a device's step
+
+module _ (p t : Bytes) (d : Column) (s : Numbers) (i : ℕ) (r : Bytes) where
   length-repeater : length (repeaterRow p t d s i r) ≡ length r
   unfolding repeaterRow
   length-repeater = choose (λ x. length x ≡ length r) (isLocked t d i) refl (length-two r 0 1 _ _)
 
-  length-torch : length (torchRow p t s i r) ≡ length r
+  length-torch : length (torchRow p t (s .weak) (s .strong) i r) ≡ length r
   unfolding torchRow
   length-torch = simp length-set
 
@@ -60,52 +75,16 @@ module _ (p t : Bytes) (d : Column) (s : State) (i : ℕ) (r : Bytes) where
       (choose (λ x. length x ≡ length r) (eqb (kindOf t i) RedstoneTorch) length-torch
       (choose (λ x. length x ≡ length r) (eqb (kindOf t i) Comparator) (length-set r 0 _) refl))
 
-  pub length-lamp : length (lampRow t s i r) ≡ length r
-  unfolding lampRow
-  length-lamp = choose (λ x. length x ≡ length r) (eqb (kindOf t i) RedstoneLamp) (length-two r 2 3 _ _) refl
-
-  -- ---- no step reads which rows the power map holds, and a lamp reads no signal
-
-  comparator-reads : nextComparator t (numbersOf (s .signal) (s .weak) (s .strong)) i ≡ nextComparator t s i
-  unfolding nextComparator
-  comparator-reads = rw (sides-read t s (sidesOf t i))
-
-  pub device-reads : deviceRow p t d (numbersOf (s .signal) (s .weak) (s .strong)) i r ≡ deviceRow p t d s i r
-  unfolding repeaterInputLevel isRequested repeaterRow torchSupportIsPowered torchRow deviceRow
-  device-reads = rw comparator-reads
-
-  pub lamp-reads : lampRow t (powersOf (s .weak) (s .strong)) i r ≡ lampRow t s i r
-  unfolding lampRow
-  lamp-reads = refl
-
-  -- ---- what a step leaves alone
-
-  pub lamp-device : deviceOf (lampRow t s i r) ≡ deviceOf r
-  unfolding lampRow
-  lamp-device =
-      choose (λ x. deviceOf x ≡ deviceOf r) (eqb (kindOf t i) RedstoneLamp)
-      (getD-set-other (set r 2 _) 3 0 _ 0 (λ e. omega arith) ∙ getD-set-other r 2 0 _ 0 (λ e. omega arith))
-      refl
-
-  pub lamp-candidate : candidateOf (lampRow t s i r) ≡ candidateOf r
-  unfolding lampRow
-  lamp-candidate =
-      choose (λ x. candidateOf x ≡ candidateOf r) (eqb (kindOf t i) RedstoneLamp)
-      (getD-set-other (set r 2 _) 3 8 _ 0 (λ e. omega arith) ∙ getD-set-other r 2 8 _ 0 (λ e. omega arith))
-      refl
-
-  -- ---- a candidate stays one
-
   repeater-candidate : candidateOf (repeaterRow p t d s i r) ≡ candidateOf r
   unfolding repeaterRow
   repeater-candidate =
       choose (λ x. candidateOf x ≡ candidateOf r) (isLocked t d i) refl
       (getD-set-other (set r 0 _) 1 8 _ 0 (λ e. omega arith) ∙ getD-set-other r 0 8 _ 0 (λ e. omega arith))
 
-  torch-candidate : 8 < length r → candidateOf r ≤ candidateOf (torchRow p t s i r)
+  torch-candidate : 8 < length r → candidateOf r ≤ candidateOf (torchRow p t (s .weak) (s .strong) i r)
   unfolding torchRow nextCandidate
   torch-candidate h =
-      let lit = nextTorch p t s i in
+      let lit = nextTorch p t (s .weak) (s .strong) i in
       let toggles = nextToggles (togglesOf r) (not (eqb lit (deviceOf r))) in
       raised (setToggles (set r 0 lit) toggles) r (candidateOf r) (number (isCandidate toggles)) (length-toggles r lit toggles) h
 

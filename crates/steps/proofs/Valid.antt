@@ -14,13 +14,16 @@ use borrow.Author.Tests.{eq-eqb, ne-eqb, leb-true, le-leb, ltb-true, lt-ltb}
 use Rattle.columns.specs.Column.{Bytes, Column, row, tabulateFrom}
 use Rattle.columns.proofs.Columns.{is-tabulate}
 use Rattle.columns.proofs.Truth.{and-true}
-use Rattle.network.specs.Network.{State}
 use Rattle.blocks.specs.Kind.{RedstoneTorch, Repeater, Comparator, RedstoneLamp}
 use Rattle.world.specs.Rows.{kindOf}
 use Rattle.electrical.specs.Emitted.{goodDevice}
-use Rattle.states.specs.Row.{number, deviceOf, delayOf, isCandidate, goodQueue, goodLamp, goodTorch, goodRest, goodState}
-use Rattle.states.specs.Fresh.{hasPower}
-use Rattle.devices.specs.Step.{isRequested, isLocked, nextQueue, repeaterRow, torchSupportIsPowered, nextTorch, nextToggles, nextCandidate, torchRow, nextComparator, deviceRow, nextLit, nextLeft, lampRow}
+use Rattle.levels.specs.Numbers.{Numbers, hasPower, number}
+use Rattle.states.specs.Row.{delayOf, isCandidate, goodQueue, goodLamp, goodTorch}
+use Rattle.repeater.specs.Step.{isRequested, isLocked, nextQueue, repeaterRow}
+use Rattle.torch.specs.Step.{torchSupportIsPowered, nextTorch, nextToggles, nextCandidate, torchRow}
+use Rattle.comparator.specs.Step.{nextComparator}
+use Rattle.lamp.specs.Step.{nextLit, nextLeft, lampRow}
+use Rattle.devices.specs.Step.{deviceRow}
 use Rattle.states.proofs.Powers.{delay-range}
 use Rattle.states.proofs.Parts.{Parts}
 
@@ -43,9 +46,9 @@ lamp-step false (suc zero) (suc (suc zero)) g h u = refl
 lamp-step false (suc zero) (suc (suc (suc left))) g h u = absurd (omega arith)
 lamp-step false (suc (suc lit)) left g h u = absurd (omega arith)
 
-module _ (t : Bytes) (s : State) (i : ℕ) where
+module _ (t : Bytes) (weak strong : Column) (i : ℕ) where
   lamp-on : kindOf t i ≡ RedstoneLamp → (a b c d e f g h k : ℕ) (rest : Bytes)
-      → Parts t i (a ∷ b ∷ c ∷ d ∷ e ∷ f ∷ g ∷ h ∷ k ∷ rest) → Parts t i (lampRow t s i (a ∷ b ∷ c ∷ d ∷ e ∷ f ∷ g ∷ h ∷ k ∷ rest))
+      → Parts t i (a ∷ b ∷ c ∷ d ∷ e ∷ f ∷ g ∷ h ∷ k ∷ rest) → Parts t i (lampRow t weak strong i (a ∷ b ∷ c ∷ d ∷ e ∷ f ∷ g ∷ h ∷ k ∷ rest))
   unfolding goodQueue goodLamp goodTorch lampRow
   lamp-on kind a b c d e f g h k rest p =
       let old : (leb c 1 && (leb d 2 && (eqb c 1 || eqb d 0))) ≡ true = rw kind at (p .lamp) in
@@ -54,17 +57,17 @@ module _ (t : Bytes) (s : State) (i : ℕ) where
       record {
         device = rw kind (rw kind at (p .device));
         queue = rw kind (rw kind at (p .queue));
-        lamp = rw kind (lamp-step (hasPower s i) c d (leb-true _ _ low) (leb-true _ _ few) unlit);
+        lamp = rw kind (lamp-step (hasPower weak strong i) c d (leb-true _ _ low) (leb-true _ _ few) unlit);
         torch = rw kind (rw kind at (p .torch));
         rest = rw kind (p .rest);
       }
 
   -- a lamp's step keeps a valid row valid
-  pub lamp-good : (r : Bytes) → length r ≡ 16 → Parts t i r → Parts t i (lampRow t s i r)
+  pub lamp-good : (r : Bytes) → length r ≡ 16 → Parts t i r → Parts t i (lampRow t weak strong i r)
   unfolding lampRow
   lamp-good r h p =
       by-cases (ℕ-discrete (kindOf t i) RedstoneLamp)
-      (λ kind. every-row (λ r. Parts t i r → Parts t i (lampRow t s i r)) (lamp-on kind) r h p)
+      (λ kind. every-row (λ r. Parts t i r → Parts t i (lampRow t weak strong i r)) (lamp-on kind) r h p)
       (λ n. rw (ne-eqb (kindOf t i) RedstoneLamp n) p)
 
 -- ---- devices
@@ -108,18 +111,18 @@ queue-step q delay b l h =
     let low : q / 2 + number b * 2 ^ (delay - 1) < 2 ^ suc (delay - 1) = queue-low q (delay - 1) b (rw e (ltb-true q (2 ^ delay) h)) in
     rw (lt-ltb _ (2 ^ delay) (rw e at low)) (eq-eqb (nextQueue q delay b % 2) _ refl)
 
-module _ (p t : Bytes) (d : Column) (s : State) (i : ℕ) where
+module _ (p t : Bytes) (d : Column) (s : Numbers) (i : ℕ) where
   torch-on : kindOf t i ≡ RedstoneTorch → (a b c e f g h j k : ℕ) (rest : Bytes)
-      → Parts t i (a ∷ b ∷ c ∷ e ∷ f ∷ g ∷ h ∷ j ∷ k ∷ rest) → Parts t i (torchRow p t s i (a ∷ b ∷ c ∷ e ∷ f ∷ g ∷ h ∷ j ∷ k ∷ rest))
+      → Parts t i (a ∷ b ∷ c ∷ e ∷ f ∷ g ∷ h ∷ j ∷ k ∷ rest) → Parts t i (torchRow p t (s .weak) (s .strong) i (a ∷ b ∷ c ∷ e ∷ f ∷ g ∷ h ∷ j ∷ k ∷ rest))
   unfolding goodDevice goodQueue goodLamp goodTorch torchRow
   torch-on kind a b c e f g h j k rest v =
       let old = f + g * 256 + h * 65536 + j * 16777216 in
-      let w = nextToggles old (not (eqb (nextTorch p t s i) a)) in
-      let small = toggles-small old (not (eqb (nextTorch p t s i) a)) in
+      let w = nextToggles old (not (eqb (nextTorch p t (s .weak) (s .strong) i) a)) in
+      let small = toggles-small old (not (eqb (nextTorch p t (s .weak) (s .strong) i) a)) in
       let (_, x) = and-true (ltb old (2 ^ 31)) _ (rw kind at (v .torch)) in
       let (low, _) = and-true (leb k 1) _ x in
       record {
-        device = rw kind (number-small (not (torchSupportIsPowered p t s i)));
+        device = rw kind (number-small (not (torchSupportIsPowered p t (s .weak) (s .strong) i)));
         queue = rw kind (rw kind at (v .queue));
         lamp = rw kind (rw kind at (v .lamp));
         torch = rw (kind, word-again w small) (torch-step w k small (leb-true _ _ low));
@@ -167,7 +170,7 @@ module _ (p t : Bytes) (d : Column) (s : State) (i : ℕ) where
       by-cases (ℕ-discrete (kindOf t i) Repeater)
       (λ kind. rw kind (repeater-good kind r h v))
       (λ l. by-cases (ℕ-discrete (kindOf t i) RedstoneTorch)
-      (λ kind. rw kind (every-row (λ r. Parts t i r → Parts t i (torchRow p t s i r)) (torch-on kind) r h v))
+      (λ kind. rw kind (every-row (λ r. Parts t i r → Parts t i (torchRow p t (s .weak) (s .strong) i r)) (torch-on kind) r h v))
       (λ m. by-cases (ℕ-discrete (kindOf t i) Comparator)
       (λ kind. rw kind (every-row (λ r. Parts t i r → Parts t i (set r 0 (nextComparator t s i))) (comparator-on kind (nextComparator t s i)) r h v))
       (λ n. rw (ne-eqb (kindOf t i) Repeater l, ne-eqb (kindOf t i) RedstoneTorch m, ne-eqb (kindOf t i) Comparator n) v)))

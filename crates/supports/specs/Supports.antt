@@ -1,4 +1,4 @@
--- `support_issues`: the rows whose support is missing.
+-- `support_issues`: the rows whose support is missing or does not support components.
 -- Assumes nothing.
 use mathlib.Core.Path.{_≡_}
 use mathlib.Core.Bool.{Bool, false, not, _&&_}

@@ -1,4 +1,4 @@
-// The rows whose support is missing: `support_issues`.
+// The rows whose support is missing or does not support components: `support_issues`.
 use blocks::kind;
 use columns::Found;
 use refusals::Checked;

@@ -1,18 +1,17 @@
 -- What fresh, tick and switch answer and write.
 -- Assumes nothing.
 use mathlib.Core.Path.{_≡_}
-use mathlib.Core.Bool.{cond, _&&_}
+use mathlib.Core.Bool.{_&&_}
 use Prim.Native.Nat.{ℕ, _+_, _*_}
-use lib.ListN.{length, set}
+use lib.ListN.{length}
 use lib.Dec.{eqb, leb}
 use Rattle.columns.specs.Column.{Bytes, Column}
-use Rattle.columns.specs.First.{onFound}
 use Rattle.places.specs.declared.Pos.{Pos}
 use Rattle.world.specs.Rows.{rows}
-use Rattle.world.specs.Find.{find}
 use Rattle.refusals.specs.declared.Checked.{Checked}
 use Rattle.refusals.specs.Check.{orElse, also, checkInput, answerOf, written}
 use Rattle.electrical.specs.Answer.{roundsOf, settled, goodColumns, Columns}
+use Rattle.switching.specs.Switch.{switched}
 use Rattle.updates.specs.State.{devicesOf, checkState, freshDevices, freshState}
 use Rattle.updates.specs.Tick.{ticks}
 
@@ -45,10 +44,6 @@ pub record Ticks (p t st st′ : Bytes) (now asked : ℕ) (signal weak strong si
   pub columns :
       Columns (checkTick p t st now asked (length signal) (length weak) (length strong)) (settled p t (devicesOf t (ticks asked p t st)))
       signal weak strong signal′ weak′ strong′
-
--- `set_powered`: "writes byte 14 of the row at that position, or nothing if empty"; "any number but 0 is true"
-unfoldable pub switched : Bytes → Pos → ℕ → Bytes
-switched t q power = onFound (λ i. set t (i * 32 + 14) (cond (eqb power 0) 1 2)) t (find t q)
 
 pub record Switches (p t t′ st : Bytes) (q : Pos) (power : ℕ) (signal weak strong signal′ weak′ strong′ : Column) (r : ℕ) : Type 0 where
   pub answer :

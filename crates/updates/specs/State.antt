@@ -6,14 +6,13 @@ use Prim.Native.Nat.{ℕ, _*_}
 use lib.ListN.{length}
 use lib.Dec.{eqb}
 use Rattle.columns.specs.Column.{Bytes, Column, tabulate, part, concatRows}
-use Rattle.columns.specs.First.{firstFrom}
 use Rattle.world.specs.Rows.{rows}
 use Rattle.refusals.specs.declared.Checked.{Checked}
 use Rattle.refusals.specs.declared.Checked.the-variants.{Accepted}
-use Rattle.refusals.specs.Check.{refuseUnless, refuseAt}
+use Rattle.refusals.specs.Check.{checkValues}
 use Rattle.electrical.specs.Answer.{settled}
 use Rattle.states.specs.Row.{deviceOf, goodState}
-use Rattle.states.specs.Fresh.{freshDevice, freshRow}
+use Rattle.fresh.specs.Fresh.{freshDevice, freshRow}
 
 -- the sixteen bytes of row i
 abbrev pub sixteen : Bytes → ℕ → Bytes
@@ -28,9 +27,9 @@ devicesOf t st = tabulate (rows t) (λ i. deviceOf (sixteen st i))
 abbrev pub isBadState : Bytes → Bytes → ℕ → Bool
 isBadState t st i = not (goodState t i (sixteen st i))
 
--- 6 bad state: "state of wrong length or value"; "in 6 length before value"
+-- 6 bad state: "state of wrong length or value"
 unfoldable pub checkState : Bytes → Bytes → Checked
-checkState t st = refuseUnless 6 (eqb (length st) (rows t * 16)) (refuseAt 6 0 (firstFrom (isBadState t st) (rows t) 0) Accepted)
+checkState t st = checkValues (eqb (length st) (rows t * 16)) (isBadState t st) (rows t)
 
 -- no refusal falls on the state
 abbrev pub IsValidState : Bytes → Bytes → Type 0
@@ -42,4 +41,4 @@ unfoldable pub freshDevices : Bytes → Column
 freshDevices t = tabulate (rows t) (freshDevice t)
 
 unfoldable pub freshState : Bytes → Bytes → Bytes
-freshState p t = let s = settled p t (freshDevices t) in concatRows (rows t) (freshRow t s)
+freshState p t = let s = settled p t (freshDevices t) in concatRows (rows t) (freshRow t (s .weak) (s .strong))

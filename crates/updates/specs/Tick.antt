@@ -5,18 +5,24 @@ use Rattle.columns.specs.Column.{Bytes, Column, concatRows}
 use Rattle.network.specs.Network.{State}
 use Rattle.world.specs.Rows.{rows}
 use Rattle.electrical.specs.Answer.{settled}
-use Rattle.devices.specs.Step.{deviceRow, lampRow}
+use Rattle.levels.specs.Numbers.{Numbers, numbers}
+use Rattle.lamp.specs.Step.{lampRow}
+use Rattle.devices.specs.Step.{deviceRow}
 use Rattle.updates.specs.State.{sixteen, devicesOf}
 
--- every device set, from the device column d and the settled state s
-unfoldable pub withDevices : Bytes → Bytes → Column → State → Bytes → Bytes
+-- every device set, from the device column d and the settled numbers s
+unfoldable pub withDevices : Bytes → Bytes → Column → Numbers → Bytes → Bytes
 withDevices p t d s st = concatRows (rows t) (λ i. deviceRow p t d s i (sixteen st i))
 
--- every lamp set, from the settled state s
-unfoldable pub withLamps : Bytes → State → Bytes → Bytes
-withLamps t s st = concatRows (rows t) (λ i. lampRow t s i (sixteen st i))
+-- every lamp set, from the settled power
+unfoldable pub withLamps : Bytes → Column → Column → Bytes → Bytes
+withLamps t weak strong st = concatRows (rows t) (λ i. lampRow t weak strong i (sixteen st i))
 
--- the numbers of a state, settled
+-- the three columns of a settled state: no step reads which rows the power map holds
+abbrev pub numbersOf : State → Numbers
+numbersOf s = numbers (s .signal) (s .weak) (s .strong)
+
+-- what a state settles to
 unfoldable pub settledOf : Bytes → Bytes → Bytes → State
 settledOf p t st = settled p t (devicesOf t st)
 
@@ -25,11 +31,11 @@ unfoldable pub setDevices : Bytes → Bytes → Bytes → Bytes
 setDevices p t st =
     let d = devicesOf t st in
     let s = settledOf p t st in
-    withDevices p t d s st
+    withDevices p t d (numbersOf s) st
 
 -- "settles, then does lamps"
 unfoldable pub setLamps : Bytes → Bytes → Bytes → Bytes
-setLamps p t st = let s = settledOf p t st in withLamps t s st
+setLamps p t st = let s = settledOf p t st in withLamps t (s .weak) (s .strong) st
 
 unfoldable pub tick : Bytes → Bytes → Bytes → Bytes
 tick p t st = setLamps p t (setDevices p t st)

@@ -39,13 +39,7 @@ fn check_state(table: &[u8], state: &[u8]) -> Checked
     if state.len() != rows * 16 {
         return Checked::Refused { number: 6, row: 0 };
     }
-    let Found::At(i) = first_bad_state(table, state, rows) else {
-        return Checked::Accepted;
-    };
-    Checked::Refused {
-        number: 6,
-        row: i as u16,
-    }
+    refusals::refuse_at(6, first_bad_state(table, state, rows), 0)
 }
 
 // Refusals 1 to 7 of a call with a state, and output columns of these lengths.

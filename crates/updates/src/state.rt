@@ -1,16 +1,17 @@
 // Loops over the rows of a state. Each row's sixteen bytes are lent by themselves.
 use columns::byte_at;
 use devices::device_step;
-use devices::lamp_step;
-use states::fresh::fresh_device;
-use states::fresh::fresh_step;
+use fresh::fresh_device;
+use fresh::fresh_step;
+use lamp::lamp_step;
 use world::row::rows;
 ghost use mathlib.Core.Path.{_≡_};
 ghost use Prim.Native.Nat.{_*_};
 ghost use lib.ListN.{length};
 ghost use Rattle.columns.specs.Column.{concatRows};
 ghost use Rattle.world.specs.Rows.{rows};
-ghost use Rattle.states.specs.Fresh.{numbersOf, powersOf, freshRow};
+ghost use Rattle.levels.specs.Numbers.{numbers};
+ghost use Rattle.fresh.specs.Fresh.{freshRow};
 ghost use Rattle.updates.specs.State.{devicesOf, freshDevices};
 ghost use Rattle.updates.specs.Tick.{withDevices, withLamps};
 
@@ -45,7 +46,7 @@ pub fn set_devices(
     state: &mut [u8],
 )
     requires { ⌜ length (now state) ≡ rows (now table) * 16 ⌝ }
-    ensures { λ _. ⌜ now (state .exit) ≡ withDevices (now (profile .entry)) (now (table .entry)) (now (devices .entry)) (numbersOf (now (signal .entry)) (now (weak .entry)) (now (strong .entry))) (now (state .entry)) ⌝ }
+    ensures { λ _. ⌜ now (state .exit) ≡ withDevices (now (profile .entry)) (now (table .entry)) (now (devices .entry)) (numbers (now (signal .entry)) (now (weak .entry)) (now (strong .entry))) (now (state .entry)) ⌝ }
 {
     let n = rows(table);
     let mut i = 0;
@@ -69,7 +70,7 @@ pub fn set_devices(
 // Every lamp, from the new settled power.
 pub fn set_lamps(table: &[u8], weak: &[u8], strong: &[u8], state: &mut [u8])
     requires { ⌜ length (now state) ≡ rows (now table) * 16 ⌝ }
-    ensures { λ _. ⌜ now (state .exit) ≡ withLamps (now (table .entry)) (powersOf (now (weak .entry)) (now (strong .entry))) (now (state .entry)) ⌝ }
+    ensures { λ _. ⌜ now (state .exit) ≡ withLamps (now (table .entry)) (now (weak .entry)) (now (strong .entry)) (now (state .entry)) ⌝ }
 {
     let n = rows(table);
     let mut i = 0;
@@ -84,7 +85,7 @@ pub fn set_lamps(table: &[u8], weak: &[u8], strong: &[u8], state: &mut [u8])
 // Every row of a table that was just built, from the settled power.
 pub fn fill_fresh(table: &[u8], weak: &[u8], strong: &[u8], state: &mut [u8])
     requires { ⌜ length (now state) ≡ rows (now table) * 16 ⌝ }
-    ensures { λ _. ⌜ now (state .exit) ≡ concatRows (rows (now (table .entry))) (freshRow (now (table .entry)) (powersOf (now (weak .entry)) (now (strong .entry)))) ⌝ }
+    ensures { λ _. ⌜ now (state .exit) ≡ concatRows (rows (now (table .entry))) (freshRow (now (table .entry)) (now (weak .entry)) (now (strong .entry))) ⌝ }
 {
     let n = rows(table);
     let mut i = 0;

@@ -5,7 +5,8 @@ use Prim.Native.Nat.{ℕ}
 use lib.ListN.{getD}
 use lib.Dec.{eqb}
 use Rattle.columns.specs.Column.{Bytes}
-use Rattle.answers.specs.Right.{traitsRight, shapeRight, findRight, supportsRight, propertiesRight, offsetRight, armsRight, transferRight, redrawRight}
+use Rattle.answers.specs.Right.{traitsRight, shapeRight, findRight, supportsRight, propertiesRight, offsetRight}
+use Rattle.wire_answers.specs.Right.{armsRight, transferRight, redrawRight}
 use Rattle.calls.specs.Calls.{settleRight, freshRight, ticksRight, switchRight}
 
 module _ (r : Bytes) where

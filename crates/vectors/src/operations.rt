@@ -22,9 +22,9 @@ fn wire_right(r: &[u8], operation: u8) -> bool
     ensures { λ b. ⌜ b ≡ wireRight (now (r .entry)) operation ⌝ }
 {
     match operation {
-        7 => right::arms_right(r),
-        8 => right::transfer_right(r),
-        9 => right::redraw_right(r),
+        7 => wire_answers::right::arms_right(r),
+        8 => wire_answers::right::transfer_right(r),
+        9 => wire_answers::right::redraw_right(r),
         _ => call_right(r, operation),
     }
 }

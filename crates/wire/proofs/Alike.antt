@@ -3,20 +3,17 @@
 -- Assumes nothing.
 use mathlib.Core.Path.{_≡_, refl, ap}
 use mathlib.Core.Logic.{_⊎_, inl, inr}
-use mathlib.Core.Bool.{false}
 use Prim.Native.Nat.{ℕ, _+_, _/_, _<_}
 use native.Mathlib.Omega.{arith}
 use lib.ListN.{length}
-use Rattle.blocks.specs.Kind.{Air}
 use Rattle.columns.specs.Column.{Bytes}
-use Rattle.columns.specs.First.{firstFrom, onFound}
 use Rattle.places.specs.declared.Pos.{Pos}
-use Rattle.places.specs.Places.{horizontals, opposite, beside, above, below, samePos}
 use Rattle.world.specs.Rows.{rows, byteOf, wordOf, posOf, kindOf, facingOf, storedArm}
-use Rattle.world.specs.Find.{find, kindAt}
-use Rattle.world.specs.Traits.{nothing, traits, traitsAt}
-use Rattle.wire.specs.Arms.{connects, componentConnects, joins, rises, drops, inferPast, inferWireConnection, armOf, hasArm}
-use Rattle.wire.specs.Transfer.{fitsHorizontal, fitsRise, fitsFall, ruleAlong, firstRule, transferOf, isTransfer, transmits}
+use Rattle.world.specs.Traits.{traits}
+use Rattle.wire.specs.Arms.{inferWireConnection, armOf}
+use Rattle.wire.specs.Transfer.{transmits}
+use Rattle.wire.proofs.Same.{SameRow, SameTraits}
+use Rattle.wire.proofs.Region.{AlikeOver, Holds, rows-alike, around-over, infer-over, row-over, transmits-over}
 
 -- the bytes of a row that are read
 abbrev pub Read : ℕ → Type 0
@@ -26,6 +23,13 @@ Read b = (b < 14) ⊎ (b ≡ 28)
 pub record Alike (t u : Bytes) : Type 0 where
   pub long : length t ≡ length u
   pub agree : (i b : ℕ) → Read b → byteOf t i b ≡ byteOf u i b
+
+-- so they are alike over the region of all positions, which holds the cells around each
+abbrev pub Everywhere : Pos → Type 0
+Everywhere q = Unit
+
+pub all-hold : (q : Pos) → Holds Everywhere q
+all-hold q = record { over = tt; under = tt; side = λ f e. tt; side-over = λ f e. tt; side-under = λ f e. tt }
 
 module _ {t u : Bytes} (a : Alike t u) where
   pub same-rows : rows t ≡ rows u
@@ -45,63 +49,26 @@ module _ {t u : Bytes} (a : Alike t u) where
   unfolding posOf
   same-place i = rw (same-word i 0 (omega arith), same-word i 4 (omega arith), same-word i 8 (omega arith))
 
-  pub same-find : (q : Pos) → find t q ≡ find u q
-  unfolding find
-  same-find q = λ x. firstFrom (λ i. samePos (same-place i x) q) (same-rows x) 0
-
-  pub same-kind-at : (q : Pos) → kindAt t q ≡ kindAt u q
-  unfolding kindAt
-  same-kind-at q = λ x. onFound (λ i. same-kind i x) Air (same-find q x)
-
   pub same-traits : (p : Bytes) (i : ℕ) → traits p t i ≡ traits p u i
   unfolding traits
   same-traits p i = rw (a .agree i 28 (inr refl), same-kind i)
 
-  pub same-traits-at : (p : Bytes) (q : Pos) → traitsAt p t q ≡ traitsAt p u q
-  unfolding traitsAt
-  same-traits-at p q = λ x. onFound (λ i. same-traits p i x) nothing (same-find q x)
+  pub everywhere : AlikeOver Everywhere t u
+  everywhere =
+      rows-alike t u same-rows same-place (λ i _ _. record { kind = same-kind i; facing = same-facing i; shape = a .agree i 28 (inr refl) })
 
-  same-connects : (f i : ℕ) → connects t f i ≡ connects u f i
-  unfolding connects
-  same-connects f i = rw (same-kind i, same-facing i)
-
-  same-component : (q : Pos) (f : ℕ) → componentConnects t q f ≡ componentConnects u q f
-  unfolding componentConnects
-  same-component q f = λ x. onFound (λ i. same-connects f i x) false (same-find q x)
-
-  same-past : (p : Bytes) (q side : Pos) (f : ℕ) → inferPast p t q side f ≡ inferPast p u q side f
-  unfolding inferPast joins rises drops
-  same-past p q side f =
-      rw (same-kind-at side, same-component side f, same-traits-at p side, same-kind-at (above side), same-traits-at p (above q), same-kind-at (below side))
+  pub same-around : (p : Bytes) (q : Pos) → SameTraits p t u q
+  same-around p q = around-over everywhere p q (all-hold q)
 
   -- tables that are alike infer the same
   pub same-infer : (p : Bytes) (q : Pos) (f : ℕ) → inferWireConnection p t q f ≡ inferWireConnection p u q f
-  unfolding inferWireConnection
-  same-infer p q f = rw (same-past p q (beside q f) f)
+  same-infer p q f = infer-over everywhere p q (all-hold q) f
 
   -- ---- with the same arms stored
 
   module _ (stored : (i f : ℕ) → storedArm t i f ≡ storedArm u i f) (p : Bytes) where
-    pub same-arm : (i f : ℕ) → armOf p t i f ≡ armOf p u i f
-    unfolding armOf
-    same-arm i f = rw (same-kind i, stored i f, same-place i, same-infer p (posOf u i) f)
-
-    pub same-has-arm : (i f : ℕ) → hasArm p t i f ≡ hasArm p u i f
-    unfolding hasArm
-    same-has-arm i f = rw (same-arm i f)
-
-    same-along : (j i f : ℕ) → ruleAlong p t j i f ≡ ruleAlong p u j i f
-    unfolding ruleAlong fitsHorizontal fitsRise fitsFall
-    same-along j i f =
-        rw (same-place j, same-place i, same-has-arm j f, same-has-arm i (opposite f), same-arm j f, same-arm i (opposite f), same-traits-at p (beside (posOf u j) f), same-traits-at p (below (posOf u j)))
-
-    pub same-transfer : (j i : ℕ) → transferOf p t j i ≡ transferOf p u j i
-    unfolding transferOf
-    same-transfer j i =
-        let rules : firstRule (ruleAlong p t j i) horizontals ≡ firstRule (ruleAlong p u j i) horizontals =
-        λ x. firstRule (λ f. same-along j i f x) horizontals in
-        rw (same-kind j, same-kind i, rules)
+    same-row : (i : ℕ) → SameRow (armOf p t) (armOf p u) t u i
+    same-row i = row-over everywhere p i (same-kind i) (same-place i) (stored i) (all-hold (posOf u i))
 
     pub same-transmits : (j i : ℕ) → transmits p t j i ≡ transmits p u j i
-    unfolding transmits
-    same-transmits j i = ap isTransfer (same-transfer j i)
+    same-transmits j i = transmits-over everywhere p (same-row j) (same-row i) (all-hold (posOf u j))

@@ -10,8 +10,12 @@ use world::row::kind_of;
 use world::row::pos_of;
 use world::traits::traits_at;
 ghost use mathlib.Core.Path.{_≡_};
+ghost use mathlib.Core.Bool.{_&&_};
+ghost use Rattle.blocks.specs.Kind.{isDust};
 ghost use Rattle.places.specs.Places.{horizontals};
-ghost use Rattle.wire.specs.Transfer.{fitsHorizontal, fitsRise, fitsFall, fits, ruleAlong, ruleOf, firstRule, transferOf, dustTransfer, isTransfer, transmits, dustTransmits};
+ghost use Rattle.world.specs.Rows.{kindOf};
+ghost use Rattle.wire.specs.Arms.{armOf};
+ghost use Rattle.wire.specs.Transfer.{fitsHorizontal, fitsRise, fitsFall, fits, ruleAlong, ruleOf, firstRule, dustTransfer, isTransfer, transmits, dustTransmits};
 
 // The rule by which power goes from one dust to another, or none: `Option<DustTransfer>`.
 pub enum DustTransfer {
@@ -23,7 +27,7 @@ pub enum DustTransfer {
 
 // Whether the sink, row i, is beside the source, row j, and both have the arm.
 fn fits_horizontal(profile: &[u8], table: &[u8], j: usize, i: usize, facing: u8) -> bool
-    ensures { λ r. ⌜ r ≡ fitsHorizontal (now (profile .entry)) (now (table .entry)) j i facing ⌝ }
+    ensures { λ r. ⌜ r ≡ fitsHorizontal (armOf (now (profile .entry)) (now (table .entry))) (now (table .entry)) j i facing ⌝ }
 {
     let side = pos_of(table, j).beside(Facing { code: facing });
     if side.same(pos_of(table, i)) {
@@ -35,7 +39,7 @@ fn fits_horizontal(profile: &[u8], table: &[u8], j: usize, i: usize, facing: u8)
 
 // Whether the sink is above the cell beside, whose rise is the source's arm.
 fn fits_rise(profile: &[u8], table: &[u8], j: usize, i: usize, facing: u8) -> bool
-    ensures { λ r. ⌜ r ≡ fitsRise (now (profile .entry)) (now (table .entry)) j i facing ⌝ }
+    ensures { λ r. ⌜ r ≡ fitsRise (armOf (now (profile .entry)) (now (table .entry))) (now (profile .entry)) (now (table .entry)) j i facing ⌝ }
 {
     let side = pos_of(table, j).beside(Facing { code: facing });
     if side.above().same(pos_of(table, i)) {
@@ -46,7 +50,7 @@ fn fits_rise(profile: &[u8], table: &[u8], j: usize, i: usize, facing: u8) -> bo
 
 // Whether the sink is below the cell beside, and the block under the source drives dust with the sink's arm back for its rise.
 fn fits_fall(profile: &[u8], table: &[u8], j: usize, i: usize, facing: u8) -> bool
-    ensures { λ r. ⌜ r ≡ fitsFall (now (profile .entry)) (now (table .entry)) j i facing ⌝ }
+    ensures { λ r. ⌜ r ≡ fitsFall (armOf (now (profile .entry)) (now (table .entry))) (now (profile .entry)) (now (table .entry)) j i facing ⌝ }
 {
     let source = pos_of(table, j);
     if source
@@ -60,54 +64,41 @@ fn fits_fall(profile: &[u8], table: &[u8], j: usize, i: usize, facing: u8) -> bo
     false
 }
 
-// Whether the rule of a height step fits: 0 level, 1 up, 2 down.
-fn fits(profile: &[u8], table: &[u8], j: usize, i: usize, facing: u8, step: u8) -> bool
-    ensures { λ r. ⌜ r ≡ fits (now (profile .entry)) (now (table .entry)) j i facing step ⌝ }
+// The height steps from the cell beside the source to the sink: one rule for each.
+const LEVEL: u8 = 0;
+
+const UP: u8 = 1;
+
+const DOWN: u8 = 2;
+
+// Whether the rule of a height step fits.
+fn fits(profile: &[u8], table: &[u8], j: usize, i: usize, facing: u8, height: u8) -> bool
+    ensures { λ r. ⌜ r ≡ fits (armOf (now (profile .entry)) (now (table .entry))) (now (profile .entry)) (now (table .entry)) j i facing height ⌝ }
 {
-    match step {
-        0 => fits_horizontal(profile, table, j, i, facing),
-        1 => fits_rise(profile, table, j, i, facing),
+    match height {
+        LEVEL => fits_horizontal(profile, table, j, i, facing),
+        UP => fits_rise(profile, table, j, i, facing),
         _ => fits_fall(profile, table, j, i, facing),
     }
 }
 
-fn rule_of(step: u8) -> DustTransfer
-    ensures { λ r. ⌜ r ≡ ruleOf step ⌝ }
+fn rule_of(height: u8) -> DustTransfer
+    ensures { λ r. ⌜ r ≡ ruleOf height ⌝ }
 {
-    match step {
-        0 => DustTransfer::Horizontal,
-        1 => DustTransfer::Rise,
+    match height {
+        LEVEL => DustTransfer::Horizontal,
+        UP => DustTransfer::Rise,
         _ => DustTransfer::FallThroughConductor,
     }
 }
 
-// The first rule that fits, facing by facing.
-fn first_rule(profile: &[u8], table: &[u8], j: usize, i: usize) -> DustTransfer
-    ensures { λ r. ⌜ r ≡ firstRule (ruleAlong (now (profile .entry)) (now (table .entry)) j i) horizontals ⌝ }
+fn are_dust(table: &[u8], j: usize, i: usize) -> bool
+    ensures { λ r. ⌜ r ≡ (isDust (kindOf (now (table .entry)) j) && isDust (kindOf (now (table .entry)) i)) ⌝ }
 {
-    let mut found = DustTransfer::NoTransfer;
-    'facings: for facing in 1..=4 {
-        'heights: for step in 0..3 {
-            if fits(profile, table, j, i, facing, step) {
-                found = rule_of(step);
-                break 'facings;
-            }
-        }
-    }
-    found
+    (kind_of(table, j) == kind::REDSTONE_WIRE) & (kind_of(table, i) == kind::REDSTONE_WIRE)
 }
 
-// The rule from row j to row i.
-pub fn transfer_rows(profile: &[u8], table: &[u8], j: usize, i: usize) -> DustTransfer
-    ensures { λ r. ⌜ r ≡ transferOf (now (profile .entry)) (now (table .entry)) j i ⌝ }
-{
-    if (kind_of(table, j) == kind::REDSTONE_WIRE) & (kind_of(table, i) == kind::REDSTONE_WIRE) {
-        return first_rule(profile, table, j, i);
-    }
-    DustTransfer::NoTransfer
-}
-
-// The rule between what stands at two positions.
+// The rule between what stands at two positions: the first that fits, facing by facing and height by height.
 pub fn dust_transfer(profile: &[u8], table: &[u8], source: Pos, sink: Pos) -> DustTransfer
     ensures { λ r. ⌜ r ≡ dustTransfer (now (profile .entry)) (now (table .entry)) source sink ⌝ }
 {
@@ -117,7 +108,19 @@ pub fn dust_transfer(profile: &[u8], table: &[u8], source: Pos, sink: Pos) -> Du
     let Found::At(i) = find(table, sink) else {
         return DustTransfer::NoTransfer;
     };
-    transfer_rows(profile, table, j, i)
+    if !are_dust(table, j, i) {
+        return DustTransfer::NoTransfer;
+    }
+    let mut found = DustTransfer::NoTransfer;
+    'facings: for facing in Facing::NORTH..=Facing::WEST {
+        'heights: for height in LEVEL..=DOWN {
+            if fits(profile, table, j, i, facing, height) {
+                found = rule_of(height);
+                break 'facings;
+            }
+        }
+    }
+    found
 }
 
 fn is_transfer(transfer: DustTransfer) -> bool
@@ -131,15 +134,47 @@ fn is_transfer(transfer: DustTransfer) -> bool
     }
 }
 
-// Whether dust of row j transmits to dust of row i.
-pub fn transmits(profile: &[u8], table: &[u8], j: usize, i: usize) -> bool
-    ensures { λ r. ⌜ r ≡ transmits (now (profile .entry)) (now (table .entry)) j i ⌝ }
-{
-    is_transfer(transfer_rows(profile, table, j, i))
-}
-
 pub fn dust_transmits(profile: &[u8], table: &[u8], source: Pos, sink: Pos) -> bool
     ensures { λ r. ⌜ r ≡ dustTransmits (now (profile .entry)) (now (table .entry)) source sink ⌝ }
 {
     is_transfer(dust_transfer(profile, table, source, sink))
+}
+
+// Whether a rule fits along the facing.
+fn fits_along(profile: &[u8], table: &[u8], j: usize, i: usize, facing: u8) -> bool
+    ensures { λ r. ⌜ r ≡ isTransfer (ruleAlong (armOf (now (profile .entry)) (now (table .entry))) (now (profile .entry)) (now (table .entry)) j i facing) ⌝ }
+{
+    if fits_horizontal(profile, table, j, i, facing) {
+        return true;
+    }
+    if fits_rise(profile, table, j, i, facing) {
+        return true;
+    }
+    fits_fall(profile, table, j, i, facing)
+}
+
+// Whether a rule fits along any facing.
+fn fits_any(profile: &[u8], table: &[u8], j: usize, i: usize) -> bool
+    ensures { λ r. ⌜ r ≡ isTransfer (firstRule (ruleAlong (armOf (now (profile .entry)) (now (table .entry))) (now (profile .entry)) (now (table .entry)) j i) horizontals) ⌝ }
+{
+    if fits_along(profile, table, j, i, Facing::NORTH) {
+        return true;
+    }
+    if fits_along(profile, table, j, i, Facing::EAST) {
+        return true;
+    }
+    if fits_along(profile, table, j, i, Facing::SOUTH) {
+        return true;
+    }
+    fits_along(profile, table, j, i, Facing::WEST)
+}
+
+// Whether dust of row j transmits to dust of row i. Settling has the rows and asks this very often, so that there is no look-up.
+pub fn transmits(profile: &[u8], table: &[u8], j: usize, i: usize) -> bool
+    ensures { λ r. ⌜ r ≡ transmits (now (profile .entry)) (now (table .entry)) j i ⌝ }
+{
+    if are_dust(table, j, i) {
+        return fits_any(profile, table, j, i);
+    }
+    false
 }

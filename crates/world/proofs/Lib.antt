@@ -1,4 +1,1 @@
 pub mod Finding
-pub mod LookUps
-pub mod Thin
-pub mod Plain

@@ -2,4 +2,3 @@ pub mod Rows
 pub mod Find
 pub mod Shapes
 pub mod Traits
-pub mod Names

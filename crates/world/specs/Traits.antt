@@ -70,7 +70,8 @@ traits p t i = cond (eqb (shapeOf t i) Plain) (plain p (kindOf t i)) (ofShape (s
 unfoldable pub traitsAt : Bytes → Bytes → Pos → BlockRedstoneTraits
 traitsAt p t q = onFound (traits p t) nothing (find t q)
 
--- the block has the rise a
+-- the block has a rise, and it is a. A block without one, whose rise is written None like an arm, equals no arm, not even a stored None: `rise` is
+-- an `Option` in the original, and None is no rise there.
 abbrev pub risesBy : BlockRedstoneTraits → ℕ → Bool
 risesBy r a = isArm (r .rise) && eqb (r .rise) a
 

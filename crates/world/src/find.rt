@@ -1,4 +1,4 @@
-// The look-up of a position, on a plain slice. The reader's `World::get` and `World::kind_at` stand over it.
+// The look-up of a position, on a plain slice: `World::get` and `World::kind_at`.
 use crate::row;
 use columns::Found;
 use places::Place;

@@ -1,7 +1,5 @@
-// The block world as a packed table: positions and facings, the fields of a row, look-up by position, traits and shapes.
+// The block world as a packed table: the fields of a row, look-up by position, traits and shapes, and the bounds of signals and rounds.
 pub mod find;
-pub mod name;
-pub mod reader;
 pub mod row;
 pub mod shape;
 pub mod signal;

@@ -79,7 +79,9 @@
 #include <stddef.h>
 #include <stdint.h>
 
-/* The number of the refusal that an answer stands for, 0 where it is none; and the refusal's row. */
+/* The number of the refusal that an answer stands for, 0 where it is none; and the refusal's row. An answer below 65536 is
+ * the result of a call that was not refused; any other gives back, by these two, the number and the row of the refusal
+ * that fell on it. That is proved: `decode-answer`, crates/refusals/proofs/Tells.antt. */
 #define REDSTONE_REFUSAL(answer) ((uint32_t)(answer) >> 16)
 #define REDSTONE_ROW(answer) ((uint32_t)(answer) & 0xffff)
 

@@ -39,10 +39,12 @@ same-length-4 c = search needs
 
 returns : tie.Need-returns
 returns c =
-    let called = c .before .before .before .before .before .before .before .before .before .before .before .before .before .before .before .before in
+    let compared = c .before .before .before .before in
+    let numbered = compared .before .before .before in
+    let called = numbered .before .before .before .before .before .before .before .before .before in
     let read = called .before .before .before .before .before in
     let fresh = rw (read .before .slice-of .ensures, read .slice-of2 .ensures) at (called .redstone-fresh .ensures) in
-    rw (c .columns-agree .ensures, c .before .before .before .before .same .ensures, c .before .before .before .before .before .slice-of3 .ensures, c .before .before .before .before .before .before .before .number .ensures) (fresh-agrees (read .before .before .before .before .before .before .before .args .r .now) fresh)
+    rw (c .columns-agree .ensures, compared .same .ensures, compared .before .slice-of3 .ensures, numbered .number .ensures) (fresh-agrees (read .before .before .before .before .before .before .before .args .r .now) fresh)
 
 pub fresh-in-spec : {M : Type 1} → statement M
 fresh-in-spec =

@@ -58,8 +58,10 @@ fresh-in-requires c κs = search needs
 returns : tie.Need-returns
 unfolding freshRight
 returns c =
-    let s = at (c .before .before .before .before .before .before .before .before .before) in
-    rw (← c .before .before .before .before .before .before .before .before .before .before .before .before .well-formed .ensures, c .before .before .before .before .before .before .before .before .before .before .before .if1 .taken, ← lent-blank 64 (s .few) (s .is), ← lent-blank 1024 (room (c .before .before .before .before .before .before .before .before .before)) (ap (λ k. k * 16) (s .is))) (c .before .before .before .before .fresh-in .ensures)
+    let done = c .before .before .before .before in
+    let counted = done .before .before .before .before .before in
+    let s = at counted in
+    rw (← counted .before .before .before .well-formed .ensures, counted .before .before .if1 .taken, ← lent-blank 64 (s .few) (s .is), ← lent-blank 1024 (room counted) (ap (λ k. k * 16) (s .is))) (done .fresh-in .ensures)
 
 returns-2 : tie.Need-returns-2
 unfolding freshRight

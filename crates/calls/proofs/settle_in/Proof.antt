@@ -36,10 +36,11 @@ same-length-3 c = search needs
 
 returns : tie.Need-returns
 returns c =
-    let called = c .before .before .before .before .before .before .before .before .before .before .before in
+    let numbered = c .before .before .before .before in
+    let called = numbered .before .before .before .before .before .before .before in
     let read = called .before .before .before .before in
     let settles = rw (read .before .before .before .slice-of .ensures, read .before .before .slice-of2 .ensures, read .before .slice-of3 .ensures, read .number .ensures) at (called .redstone-settle .ensures) in
-    rw (c .columns-agree .ensures, c .before .before .before .before .number2 .ensures) (settle-agrees (read .before .before .before .before .before .before .before .before .args .r .now) settles)
+    rw (c .columns-agree .ensures, numbered .number2 .ensures) (settle-agrees (read .before .before .before .before .before .before .before .before .args .r .now) settles)
 
 pub settle-in-spec : {M : Type 1} → statement M
 settle-in-spec =

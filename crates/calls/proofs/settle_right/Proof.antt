@@ -43,8 +43,10 @@ settle-in-requires c κs = search needs
 returns : tie.Need-returns
 unfolding settleRight
 returns c =
-    let s = at (c .before .before .before .before .before .before .before) in
-    rw (← c .before .before .before .before .before .before .before .before .before .before .well-formed .ensures, c .before .before .before .before .before .before .before .before .before .if1 .taken, ← lent-blank 64 (s .few) (s .is)) (c .before .before .before .settle-in .ensures)
+    let done = c .before .before .before in
+    let counted = done .before .before .before .before in
+    let s = at counted in
+    rw (← counted .before .before .before .well-formed .ensures, counted .before .before .if1 .taken, ← lent-blank 64 (s .few) (s .is)) (done .settle-in .ensures)
 
 returns-2 : tie.Need-returns-2
 unfolding settleRight

@@ -55,13 +55,15 @@ fits c = (search needs, search needs, search needs)
 
 returns : tie.Need-returns
 returns c =
-    let called = c .before .before .before .before .before .before .before .before .before .before .before .before .before .before .before .before in
+    let compared = c .before .before .before .before in
+    let numbered = compared .before .before .before in
+    let called = numbered .before .before .before .before .before .before .before .before .before in
     let read = called .before .before .before .before .before .before .before in
     let place = read .before .before .before .before in
     let q = place .pos-at .result in
     let fit = fits place in
     let switches = rw (read .before .before .before .slice-of .ensures, read .before .slice-of2 .ensures, read .number .ensures, back32 (q .x) (fit .0), back32 (q .y) (fit .1), back32 (q .z) (fit .2), place .pos-at .ensures, place .before .after .ensures) at (called .redstone-switch .ensures) in
-    rw (c .columns-agree .ensures, c .before .before .before .before .same .ensures, c .before .before .before .before .before .slice-of3 .ensures, c .before .before .before .before .before .before .before .number2 .ensures) (switch-agrees (read .before .before .before .before .before .before .before .before .before .before .before .args .r .now) switches)
+    rw (c .columns-agree .ensures, compared .same .ensures, compared .before .slice-of3 .ensures, numbered .number2 .ensures) (switch-agrees (place .before .before .before .before .before .before .before .args .r .now) switches)
 
 pub switch-in-spec : {M : Type 1} → statement M
 switch-in-spec =

@@ -62,8 +62,11 @@ switch-in-requires c κs = search needs
 returns : tie.Need-returns
 unfolding switchRight
 returns c =
-    let s = at (c .before .before .before .before .before .before .before .before .before .before) in
-    rw (← c .before .before .before .before .before .before .before .before .before .before .before .before .before .well-formed .ensures, c .before .before .before .before .before .before .before .before .before .before .before .before .if1 .taken, ← lent-blank 64 (s .few) (s .is), ← c .before .before .before .before .before .before .before .before .before .before .before .slice-of .ensures, ← lent (c .before .before .before .before .before .before .before .before .before)) (c .before .before .before .before .switch-in .ensures)
+    let done = c .before .before .before .before in
+    let copied = done .before .before .before .before .before in
+    let counted = copied .before in
+    let s = at counted in
+    rw (← counted .before .before .before .well-formed .ensures, counted .before .before .if1 .taken, ← lent-blank 64 (s .few) (s .is), ← counted .before .slice-of .ensures, ← lent copied) (done .switch-in .ensures)
 
 returns-2 : tie.Need-returns-2
 unfolding switchRight

@@ -45,10 +45,13 @@ same-length-4 c = search needs
 
 returns : tie.Need-returns
 returns c =
-    let called = c .before .before .before .before .before .before .before .before .before .before .before .before .before .before .before .before in
+    let compared = c .before .before .before .before in
+    let numbered = compared .before .before .before in
+    let called = numbered .before .before .before .before .before .before .before .before .before in
     let read = called .before .before .before .before in
-    let ticks = rw (read .before .before .before .before .slice-of .ensures, read .before .before .before .slice-of2 .ensures, read .before .number .ensures, read .number2 .ensures) at (called .redstone-tick .ensures) in
-    rw (c .columns-agree .ensures, c .before .before .before .before .same .ensures, c .before .before .before .before .before .slice-of3 .ensures, c .before .before .before .before .before .before .before .number3 .ensures) (ticks-agree (read .before .before .before .before .before .before .before .before .before .before .args .r .now) ticks)
+    let first = read .before .before .before .before in
+    let ticks = rw (first .slice-of .ensures, read .before .before .before .slice-of2 .ensures, read .before .number .ensures, read .number2 .ensures) at (called .redstone-tick .ensures) in
+    rw (c .columns-agree .ensures, compared .same .ensures, compared .before .slice-of3 .ensures, numbered .number3 .ensures) (ticks-agree (first .before .before .before .before .before .before .args .r .now) ticks)
 
 pub ticks-in-spec : {M : Type 1} → statement M
 ticks-in-spec =

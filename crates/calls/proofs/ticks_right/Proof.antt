@@ -69,8 +69,11 @@ ticks-in-requires c κs = search needs
 returns : tie.Need-returns
 unfolding ticksRight
 returns c =
-    let s = at (c .before .before .before .before .before .before .before .before .before .before .before) in
-    rw (← c .before .before .before .before .before .before .before .before .before .before .before .before .before .before .well-formed-ticks .ensures, c .before .before .before .before .before .before .before .before .before .before .before .before .before .if1 .taken, ← lent-blank 64 (s .few) (s .is), ← c .before .before .before .before .before .before .before .before .before .before .slice-of2 .ensures, ← lent (c .before .before .before .before .before .before .before .before .before)) (c .before .before .before .before .ticks-in .ensures)
+    let done = c .before .before .before .before in
+    let copied = done .before .before .before .before .before in
+    let counted = copied .before .before in
+    let s = at counted in
+    rw (← counted .before .before .before .well-formed-ticks .ensures, counted .before .before .if1 .taken, ← lent-blank 64 (s .few) (s .is), ← copied .before .slice-of2 .ensures, ← lent copied) (done .ticks-in .ensures)
 
 returns-2 : tie.Need-returns-2
 unfolding ticksRight

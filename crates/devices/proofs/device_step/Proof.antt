@@ -1,6 +1,6 @@
 -- `devices::device_step` meets its contract. Assumes nothing.
 use borrow.Author.Tests.{eq-eqb, ne-eqb}
-use Rattle.devices.specs.Step.{torchRow, torchSupportIsPowered, deviceRow}
+use Rattle.devices.specs.Step.{deviceRow}
 use borrow.Author.Needs.{needs}
 use Rattle.devices.proofs.device_step.Statement.{statement}
 use Rattle.devices.proofs.device_step.Tie as tie
@@ -25,7 +25,7 @@ same-length-2 : tie.Need-same-length-2
 same-length-2 c = search needs
 
 returns-2 : tie.Need-returns-2
-unfolding deviceRow torchRow torchSupportIsPowered
+unfolding deviceRow
 returns-2 c = rw (← c .before .before .before .before .before .before .kind-of .ensures, ne-eqb _ 5 (c .before .before .before .before .before .if1 .left), eq-eqb _ 4 (c .before .before .before .before .if2 .taken)) (c .before .before .torch-step .ensures)
 
 next-comparator-requires : tie.Need-next-comparator-requires

@@ -1,6 +1,7 @@
 -- A solver's loop, which keeps the signals and the weak power of the last round. Strong power is the same in every round, and so is the map but
 -- before the first: so the loop asks once whether the map is empty, and keeps no map.
--- Proved laws: nobody has to believe them, or read them to know what is promised. Assumes nothing.
+-- Of the definitions here, `unmapped`, `repeats` and `Answered` stand in contracts of inner functions; no call of the editor speaks of them. The rest
+-- are proved laws: nobody has to believe them, or read them to know what is promised. Assumes nothing.
 use mathlib.Core.Path.{_≡_, refl, ap, sym, _∙_}
 use mathlib.Core.Bool.{Bool, true, false, cond, _&&_, _||_, false≢true}
 use Prim.Native.Nat.{ℕ, zero, suc, _+_, _<_}

@@ -34,7 +34,7 @@ loop-less c = omega arith
 loop-again : tie.Need-loop-again Inv-loop μ-loop
 loop-again c =
     let l = c .before .before .before .before .before in
-    let a = c .before .before .before .before .before .before .before .before .before .before .args in
+    let a = l .before .before .before .before .before .args in
     let i = l .loop .i in
     let w = l .loop .inv .2 in
     let row = c .before .before .redraw-row in

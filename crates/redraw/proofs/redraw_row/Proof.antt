@@ -52,13 +52,15 @@ same-length-2 c = search needs
 returns-2 : tie.Need-returns-2
 unfolding redrawnRow
 returns-2 c =
-    let a = c .before .before .before .before .before .before .before .before .before .before .before .before .args in
+    let entries = c .before .before .before .before .before in
+    let test = entries .before .before in
+    let a = test .before .before .before .before .before .args in
     let i = a .row in
     let t = a .table .now in
     let e : i * 32 + 32 - i * 32 ≡ 32 = omega arith in
-    let arms = c .before .before .before .before .with-opposite .ensures ∙ ap withOpposite (c .before .before .before .before .before .entries-of .ensures) in
+    let arms = c .before .before .before .before .with-opposite .ensures ∙ ap withOpposite (entries .entries-of .ensures) in
     let row = rw e at (c .before .before .draw .ensures) in
-    rw (eq-eqb _ 3 (sym (c .before .before .before .before .before .before .before .before .kind-of .ensures) ∙ c .before .before .before .before .before .before .before .if1 .left), e) (ap (putMid (i * 32) 32 t) (row ∙ ap (drawn (part 32 t i)) arms))
+    rw (eq-eqb _ 3 (sym (test .before .kind-of .ensures) ∙ test .if1 .left), e) (ap (putMid (i * 32) 32 t) (row ∙ ap (drawn (part 32 t i)) arms))
 
 pub redraw-row-spec : {M : Type 1} → statement M
 redraw-row-spec =

@@ -1,22 +1,16 @@
--- `refusals::also` meets its contract, by the cases of what was checked. Assumes nothing.
+-- `refusals::also` meets its contract. Assumes nothing.
 use borrow.Author.Needs.{needs}
 use Rattle.refusals.proofs.also.Statement.{statement}
 use Rattle.refusals.proofs.also.Tie as tie
 
-enum-told : tie.Need-enum-told
-enum-told c = search needs
+refuse-unless-requires : tie.Need-refuse-unless-requires
+refuse-unless-requires c κs = search needs
+
+or-else-requires : tie.Need-or-else-requires
+or-else-requires c κs = search needs
 
 returns : tie.Need-returns
-returns c = search needs
-
-enum-told-2 : tie.Need-enum-told-2
-enum-told-2 c = search needs
-
-returns-2 : tie.Need-returns-2
-returns-2 c = search needs
-
-returns-3 : tie.Need-returns-3
-returns-3 c = rw (c .before .enum-told2 .given .1, c .if1 .left)
+returns c = rw (← c .before .refuse-unless .ensures) (c .or-else .ensures)
 
 pub also-spec : {M : Type 1} → statement M
-also-spec = tie.close (tie.spec enum-told returns enum-told-2 returns-2 returns-3)
+also-spec = tie.close (tie.spec refuse-unless-requires or-else-requires returns)

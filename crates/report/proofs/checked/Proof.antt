@@ -13,11 +13,14 @@ check-input-requires c κs = search needs
 enum-told : tie.Need-enum-told
 enum-told c = search needs
 
-accepted : (c : tie.After-enum-told) → checkInput (c .before .before .before .before .before .before .args .profile .now) (c .before .before .before .before .before .before .args .table .now) ≡ Accepted
+abbrev start : tie.After-check-input → tie.Start
+start c = c .before .before .before .before
+
+accepted : (c : tie.After-enum-told) → let a = start (c .before .before) .args in checkInput (a .profile .now) (a .table .now) ≡ Accepted
 accepted c = sym (c .before .before .check-input .ensures) ∙ c .enum-told .given .1
 
 settled-requires : tie.Need-settled-requires
-settled-requires c κs = (accepted (c .before), c .before .before .before .before .before .before .before .pre)
+settled-requires c κs = (accepted (c .before), start (c .before .before .before) .pre)
 
 enum-known-number : tie.Need-enum-known-number
 enum-known-number c = search needs
@@ -30,16 +33,21 @@ same-length c = search needs
 
 returns : tie.Need-returns
 returns c =
-    let a = c .before .before .before .before .before .before .before .before .before .before .args in
-    rw (run-accepted (a .profile .now) (a .table .now) (accepted (c .before .before .before .before))) (c .before .before .settled .ensures)
+    let put = c .before .before in
+    let told = put .before .before in
+    let a = start (told .before .before) .args in
+    rw (run-accepted (a .profile .now) (a .table .now) (accepted told)) (put .settled .ensures)
 
 same-length-2 : tie.Need-same-length-2
 same-length-2 c = search needs
 
 returns-2 : tie.Need-returns-2
 returns-2 c =
-    let a = c .before .before .before .before .before .before .before .before .before .before .before .args in
-    rw (run-refused (a .profile .now) (a .table .now) (sym (c .before .before .before .before .before .before .before .check-input .ensures) ∙ c .before .before .before .before .before .number .given .1)) (c .before .before .refusal .ensures)
+    let put = c .before .before in
+    let told = put .before .before .before in
+    let check = told .before .before in
+    let a = start check .args in
+    rw (run-refused (a .profile .now) (a .table .now) (sym (check .check-input .ensures) ∙ told .number .given .1)) (put .refusal .ensures)
 
 pub checked-spec : {M : Type 1} → statement M
 checked-spec =

@@ -4,7 +4,7 @@ use lib.ListN.{length}
 use borrow.Author.Tests.{lt-leb, le-leb}
 use borrow.Author.Needs.{needs}
 use Rattle.report.specs.Text.{reported}
-use Rattle.report.proofs.Putting.{puts-front, puts-length}
+use Rattle.text.proofs.Putting.{puts-front, puts-length}
 use Rattle.report.proofs.settle_text.Statement.{statement}
 use Rattle.report.proofs.settle_text.Tie as tie
 

@@ -53,9 +53,10 @@ same-length-3 c = search needs
 
 returns-3 : tie.Need-returns-3
 returns-3 c =
-    let input = c .before .before .before .before .before .before .before .before .before .before .args .input .now in
+    let put = c .before .before in
+    let input = put .before .before .before .before .before .before .before .before .args .input .now in
     let rest : take (length input - 13) (drop 13 input) ≡ drop 13 input = take-all (length input - 13) (drop 13 input) (rw length-drop (omega arith)) in
-    rw (whole-text input (omega arith)) (rw rest at (c .before .before .checked .ensures))
+    rw (whole-text input (omega arith)) (rw rest at (put .checked .ensures))
 
 pub whole-spec : {M : Type 1} → statement M
 whole-spec =

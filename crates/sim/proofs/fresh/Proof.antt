@@ -65,7 +65,10 @@ same-length-4 : tie.Need-same-length-4
 same-length-4 c = search needs
 
 returns-2 : tie.Need-returns-2
-returns-2 c = let done = c .before .before .before .before .before .before .before .before .before .new-state .ensures in fresh-done (none (c .before .before .before .before .before .before .before .before .before .before .before .before .before .before .before)) (done .0) (done .1 .0) (done .1 .1)
+returns-2 c =
+    let after = c .before .before .before .before .before .before .before .before .before in
+    let done = after .new-state .ensures in
+    fresh-done (none (after .before .before .before .before .before .before)) (done .0) (done .1 .0) (done .1 .1)
 
 pub fresh-spec : {M : Type 1} → statement M
 fresh-spec =

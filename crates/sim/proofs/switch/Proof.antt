@@ -79,9 +79,11 @@ same-length-5 c = search needs
 
 returns-2 : tie.Need-returns-2
 returns-2 c =
-    let h = turned (c .before .before .before .before .before .before .before .before .before .before .before .before .before .before .before .before .before) in
-    let done = c .before .before .before .before .before .before .before .settle-state .ensures in
-    switch-done (none (c .before .before .before .before .before .before .before .before .before .before .before .before .before .before .before .before .before)) (h .is) (switch-rounds h (done .0)) (switch-holds h (done .1 .holds))
+    let after = c .before .before .before .before .before .before .before in
+    let switched = after .before .before .before .before .before .before .before .before .before .before in
+    let h = turned switched in
+    let done = after .settle-state .ensures in
+    switch-done (none switched) (h .is) (switch-rounds h (done .0)) (switch-holds h (done .1 .holds))
 
 pub switch-spec : {M : Type 1} → statement M
 switch-spec =

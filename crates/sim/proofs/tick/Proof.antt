@@ -67,7 +67,10 @@ same-length-5 : tie.Need-same-length-5
 same-length-5 c = search needs
 
 returns-2 : tie.Need-returns-2
-returns-2 c = let done = c .before .before .before .before .before .before .before .before .before .settle-ticks .ensures in ticks-done (none (c .before .before .before .before .before .before .before .before .before .before .before .before .before .before .before)) (done .0) (done .1 .0) (done .1 .1)
+returns-2 c =
+    let after = c .before .before .before .before .before .before .before .before .before in
+    let done = after .settle-ticks .ensures in
+    ticks-done (none (after .before .before .before .before .before .before)) (done .0) (done .1 .0) (done .1 .1)
 
 pub tick-spec : {M : Type 1} → statement M
 tick-spec =

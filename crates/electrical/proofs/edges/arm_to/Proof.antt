@@ -1,5 +1,6 @@
 -- `electrical::edges::arm_to` meets its contract. Assumes nothing.
 use mathlib.Core.Path.{sym, _∙_}
+use Rattle.wire.specs.Arms.{hasArm}
 use Rattle.electrical.specs.Edges.{armTo}
 use borrow.Author.Needs.{needs}
 use Rattle.electrical.proofs.edges.arm_to.Statement.{statement}
@@ -18,7 +19,7 @@ has-arm-requires : tie.Need-has-arm-requires
 has-arm-requires c κs = search needs
 
 returns : tie.Need-returns
-unfolding armTo
+unfolding armTo hasArm
 returns c = rw (← c .before .before .before .before .pos-of .ensures, ← c .before .before .before .pos-of2 .ensures, sym (c .before .before .is-beside .ensures) ∙ c .before .if1 .taken) (c .has-arm .ensures)
 
 returns-2 : tie.Need-returns-2

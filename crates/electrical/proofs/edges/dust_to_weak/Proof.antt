@@ -1,7 +1,7 @@
 -- `electrical::edges::dust_to_weak` meets its contract. Assumes nothing.
 use mathlib.Core.Path.{sym, _∙_}
 use borrow.Author.Tests.{eq-eqb, ne-eqb}
-use Rattle.electrical.specs.Edges.{dustToWeak}
+use Rattle.electrical.specs.Edges.{dustToWeakBy}
 use borrow.Author.Needs.{needs}
 use Rattle.electrical.proofs.edges.dust_to_weak.Statement.{statement}
 use Rattle.electrical.proofs.edges.dust_to_weak.Tie as tie
@@ -10,7 +10,7 @@ kind-of-requires : tie.Need-kind-of-requires
 kind-of-requires c κs = search needs
 
 returns : tie.Need-returns
-unfolding dustToWeak
+unfolding dustToWeakBy
 returns c = rw (← c .before .kind-of .ensures, ne-eqb _ 3 (c .if1 .taken))
 
 redstone-traits-requires : tie.Need-redstone-traits-requires
@@ -20,12 +20,12 @@ reaches-requires : tie.Need-reaches-requires
 reaches-requires c κs = search needs
 
 returns-2 : tie.Need-returns-2
-unfolding dustToWeak
+unfolding dustToWeakBy
 returns-2 c =
     rw (eq-eqb _ 3 (sym (c .before .before .before .before .kind-of .ensures) ∙ c .before .before .before .if1 .left), ← c .before .before .redstone-traits .ensures, c .before .if2 .taken) (c .reaches .ensures)
 
 returns-3 : tie.Need-returns-3
-unfolding dustToWeak
+unfolding dustToWeakBy
 returns-3 c =
     rw (eq-eqb _ 3 (sym (c .before .before .before .kind-of .ensures) ∙ c .before .before .if1 .left), ← c .before .redstone-traits .ensures, c .if2 .left)
 

@@ -2,7 +2,7 @@
 use mathlib.Core.Path.{sym, _∙_}
 use mathlib.Core.Bool.{and-assoc}
 use borrow.Author.Tests.{eq-eqb, ne-eqb}
-use Rattle.electrical.specs.Edges.{strongToDust}
+use Rattle.electrical.specs.Edges.{strongToDustBy}
 use borrow.Author.Needs.{needs}
 use Rattle.electrical.proofs.edges.strong_to_dust.Statement.{statement}
 use Rattle.electrical.proofs.edges.strong_to_dust.Tie as tie
@@ -11,7 +11,7 @@ kind-of-requires : tie.Need-kind-of-requires
 kind-of-requires c κs = search needs
 
 returns : tie.Need-returns
-unfolding strongToDust
+unfolding strongToDustBy
 returns c = rw (← c .before .kind-of .ensures, ne-eqb _ 3 (c .if1 .taken))
 
 feeds-requires : tie.Need-feeds-requires
@@ -24,12 +24,12 @@ touches-requires : tie.Need-touches-requires
 touches-requires c κs = search needs
 
 returns-2 : tie.Need-returns-2
-unfolding strongToDust
+unfolding strongToDustBy
 returns-2 c =
     rw (eq-eqb _ 3 (sym (c .before .before .before .before .before .before .kind-of .ensures) ∙ c .before .before .before .before .before .if1 .left), ← c .before .before .before .before .feeds .ensures, ← c .before .before .before .redstone-traits .ensures, ← and-assoc, c .before .if2 .taken) (c .touches .ensures)
 
 returns-3 : tie.Need-returns-3
-unfolding strongToDust
+unfolding strongToDustBy
 returns-3 c =
     rw (eq-eqb _ 3 (sym (c .before .before .before .before .before .kind-of .ensures) ∙ c .before .before .before .before .if1 .left), ← c .before .before .before .feeds .ensures, ← c .before .before .redstone-traits .ensures, ← and-assoc, c .if2 .left)
 

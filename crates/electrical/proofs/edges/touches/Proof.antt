@@ -3,6 +3,7 @@ use mathlib.Core.Path.{_≡_}
 use mathlib.Core.Bool.{false}
 use Rattle.places.specs.Places.{adjacent}
 use Rattle.world.specs.Rows.{posOf}
+use Rattle.wire.specs.Arms.{armOf}
 use Rattle.electrical.specs.Edges.{touches}
 use Rattle.electrical.proofs.Apart.{not-above, not-below, not-along}
 use borrow.Author.Needs.{needs}
@@ -43,7 +44,7 @@ unfolding touches
 returns-2 c =
     let a = c .before .before .before .before .before .before .args in
     let h : adjacent (posOf (a .table .now) (a .i)) (posOf (a .table .now) (a .j)) ≡ false = rw (← c .before .before .before .pos-of .ensures, ← c .before .before .pos-of2 .ensures, ← c .before .is-adjacent .ensures) (c .if1 .left) in
-    rw (not-above _ _ h, not-below _ _ h, not-along (a .profile .now) _ _ _ h)
+    rw (not-above _ _ h, not-below _ _ h, not-along (armOf (a .profile .now) (a .table .now)) _ _ _ h)
 
 pub touches-spec : {M : Type 1} → statement M
 touches-spec =

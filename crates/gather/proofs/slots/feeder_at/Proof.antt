@@ -39,7 +39,10 @@ slot-of-requires c κs = search needs
 
 returns-3 : tie.Need-returns-3
 unfolding feederAt slotOf
-returns-3 c = rw (← c .before .before .before .before .before .before .before .before .before .kind-of .ensures, eq-eqb _ 3 (c .before .before .before .before .before .before .before .before .if1 .left), ← c .before .before .before .before .before .before .before .pos-of .ensures, ← c .before .before .before .before .before .before .around-at .ensures, ← c .before .before .before .before .before .find-by-halves .ensures, c .before .before .before .j .given .1, ← c .before .transmits .ensures) (c .slot-of .ensures)
+returns-3 c =
+    let found = c .before .before .before in
+    let at = found .before .before .before .before in
+    rw (← at .before .before .kind-of .ensures, eq-eqb _ 3 (at .before .if1 .left), ← at .pos-of .ensures, ← found .before .before .before .around-at .ensures, ← found .before .before .find-by-halves .ensures, found .j .given .1, ← c .before .transmits .ensures) (c .slot-of .ensures)
 
 pub feeder-at-spec : {M : Type 1} → statement M
 feeder-at-spec =

@@ -39,7 +39,11 @@ slot-of-requires c κs = search needs
 
 returns-3 : tie.Need-returns-3
 unfolding underAt slotOf
-returns-3 c = rw (← c .before .before .before .before .before .before .before .before .before .before .redstone-traits .ensures, not-false (c .before .before .before .before .before .before .before .before .before .before .redstone-traits .result .weak) (c .before .before .before .before .before .before .before .before .if1 .left), ← c .before .before .before .before .before .before .before .pos-of .ensures, ← c .before .before .before .before .before .before .over-at .ensures, ← c .before .before .before .before .before .find-by-halves .ensures, c .before .before .before .j .given .1, ← c .before .dust-to-weak .ensures) (c .slot-of .ensures)
+returns-3 c =
+    let found = c .before .before .before in
+    let at = found .before .before .before .before in
+    let traits = at .before .before .before .redstone-traits in
+    rw (← traits .ensures, not-false (traits .result .weak) (at .before .if1 .left), ← at .pos-of .ensures, ← found .before .before .before .over-at .ensures, ← found .before .before .find-by-halves .ensures, found .j .given .1, ← c .before .dust-to-weak .ensures) (c .slot-of .ensures)
 
 pub under-at-spec : {M : Type 1} → statement M
 under-at-spec =

@@ -2,13 +2,13 @@
 use borrow.Author.Needs.{needs}
 use Prim.Native.Nat.{_-_}
 use native.Mathlib.Omega.{arith}
-use Rattle.states.specs.Fresh.{powersOf, freshRow}
+use Rattle.fresh.specs.Fresh.{freshRow}
 use Rattle.updates.proofs.Turns.{Turns, turns-all, turning}
 use Rattle.updates.proofs.state.fill_fresh.Statement.{statement}
 use Rattle.updates.proofs.state.fill_fresh.Tie as tie
 
 abbrev Inv-loop : tie.InvT-loop
-Inv-loop table weak strong state₀ n i₀ state i = Turns (λ k _. freshRow table (powersOf weak strong) k) table state₀ n i state
+Inv-loop table weak strong state₀ n i₀ state i = Turns (λ k _. freshRow table weak strong k) table state₀ n i state
 
 abbrev μ-loop : tie.MeasureT-loop
 μ-loop table weak strong state₀ n i₀ state i = n - i

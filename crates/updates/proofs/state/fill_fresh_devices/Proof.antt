@@ -3,7 +3,7 @@ use borrow.Author.Needs.{needs}
 use Prim.Native.Nat.{_-_}
 use lib.ListN.{length}
 use Rattle.columns.proofs.Columns.{Filled, fills}
-use Rattle.states.specs.Fresh.{freshDevice}
+use Rattle.fresh.specs.Fresh.{freshDevice}
 use Rattle.updates.specs.State.{freshDevices}
 use Rattle.updates.proofs.state.fill_fresh_devices.Statement.{statement}
 use Rattle.updates.proofs.state.fill_fresh_devices.Tie as tie

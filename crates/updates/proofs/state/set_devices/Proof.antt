@@ -2,7 +2,7 @@
 use borrow.Author.Needs.{needs}
 use Prim.Native.Nat.{_-_}
 use native.Mathlib.Omega.{arith}
-use Rattle.states.specs.Fresh.{numbersOf}
+use Rattle.levels.specs.Numbers.{numbers}
 use Rattle.devices.specs.Step.{deviceRow}
 use Rattle.updates.specs.Tick.{withDevices}
 use Rattle.updates.proofs.Turns.{Turns, turns-all, turning}
@@ -10,7 +10,7 @@ use Rattle.updates.proofs.state.set_devices.Statement.{statement}
 use Rattle.updates.proofs.state.set_devices.Tie as tie
 
 abbrev Inv-loop : tie.InvT-loop
-Inv-loop profile table devices signal weak strong state₀ n i₀ state i = Turns (deviceRow profile table devices (numbersOf signal weak strong)) table state₀ n i state
+Inv-loop profile table devices signal weak strong state₀ n i₀ state i = Turns (deviceRow profile table devices (numbers signal weak strong)) table state₀ n i state
 
 abbrev μ-loop : tie.MeasureT-loop
 μ-loop profile table devices signal weak strong state₀ n i₀ state i = n - i

@@ -2,15 +2,14 @@
 use borrow.Author.Needs.{needs}
 use Prim.Native.Nat.{_-_}
 use native.Mathlib.Omega.{arith}
-use Rattle.states.specs.Fresh.{powersOf}
-use Rattle.devices.specs.Step.{lampRow}
+use Rattle.lamp.specs.Step.{lampRow}
 use Rattle.updates.specs.Tick.{withLamps}
 use Rattle.updates.proofs.Turns.{Turns, turns-all, turning}
 use Rattle.updates.proofs.state.set_lamps.Statement.{statement}
 use Rattle.updates.proofs.state.set_lamps.Tie as tie
 
 abbrev Inv-loop : tie.InvT-loop
-Inv-loop table weak strong state₀ n i₀ state i = Turns (lampRow table (powersOf weak strong)) table state₀ n i state
+Inv-loop table weak strong state₀ n i₀ state i = Turns (lampRow table weak strong) table state₀ n i state
 
 abbrev μ-loop : tie.MeasureT-loop
 μ-loop table weak strong state₀ n i₀ state i = n - i

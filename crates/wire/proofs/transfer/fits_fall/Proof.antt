@@ -40,13 +40,17 @@ rises-by-requires : tie.Need-rises-by-requires
 rises-by-requires c κs = search needs
 
 -- the test asks whether the sink is below the cell beside
-sink : (c : tie.After-same) → samePos (below (beside (posOf (c .before .before .before .before .before .before .before .args .table .now) (c .before .before .before .before .before .before .before .args .j)) (c .before .before .before .before .before .before .before .args .facing))) (posOf (c .before .before .before .before .before .before .before .args .table .now) (c .before .before .before .before .before .before .before .args .i)) ≡ c .same .result
+sink : (c : tie.After-same)
+    → let a = c .before .before .before .before .before .before .before .args in
+    samePos (below (beside (posOf (a .table .now) (a .j)) (a .facing))) (posOf (a .table .now) (a .i)) ≡ c .same .result
 sink c = rw (← c .before .before .before .before .pos-of .ensures, ← c .before .before .before .beside .ensures, ← c .before .before .below .ensures, ← c .before .pos-of2 .ensures) (sym (c .same .ensures))
 
 returns : tie.Need-returns
 unfolding fitsFall
 returns c =
-    rw (sink (c .before .before .before .before .before .before .before) ∙ c .before .before .before .before .before .before .if1 .taken, ← c .before .before .before .before .before .before .before .before .before .before .before .pos-of .ensures, ← c .before .before .before .before .before .below2 .ensures, ← c .before .before .before .opposite .ensures, c .before .rises-by .ensures)
+    let under = c .before .before .before .before .before in
+    let at = under .before .before in
+    rw (sink at ∙ under .before .if1 .taken, ← at .before .before .before .before .pos-of .ensures, ← under .below2 .ensures, ← c .before .before .before .opposite .ensures, c .before .rises-by .ensures)
     (ap₂ (λ r m. r .drives && risesBy r m) (c .before .before .before .before .traits-at .ensures) (c .before .before .arm-of .ensures))
 
 returns-2 : tie.Need-returns-2

@@ -4,6 +4,7 @@ use mathlib.Core.Bool.{_&&_}
 use borrow.Author.Needs.{needs}
 use Rattle.places.specs.Places.{samePos, beside}
 use Rattle.world.specs.Rows.{posOf}
+use Rattle.wire.specs.Arms.{hasArm}
 use Rattle.wire.specs.Transfer.{fitsHorizontal}
 use Rattle.wire.proofs.transfer.fits_horizontal.Statement.{statement}
 use Rattle.wire.proofs.transfer.fits_horizontal.Tie as tie
@@ -30,11 +31,13 @@ has-arm-requires-2 : tie.Need-has-arm-requires-2
 has-arm-requires-2 c κs = search needs
 
 -- the test asks whether the sink is beside
-sink : (c : tie.After-same) → samePos (beside (posOf (c .before .before .before .before .before .before .args .table .now) (c .before .before .before .before .before .before .args .j)) (c .before .before .before .before .before .before .args .facing)) (posOf (c .before .before .before .before .before .before .args .table .now) (c .before .before .before .before .before .before .args .i)) ≡ c .same .result
+sink : (c : tie.After-same)
+    → let a = c .before .before .before .before .before .before .args in
+    samePos (beside (posOf (a .table .now) (a .j)) (a .facing)) (posOf (a .table .now) (a .i)) ≡ c .same .result
 sink c = rw (← c .before .before .before .pos-of .ensures, ← c .before .before .beside .ensures, ← c .before .pos-of2 .ensures) (sym (c .same .ensures))
 
 returns : tie.Need-returns
-unfolding fitsHorizontal
+unfolding fitsHorizontal hasArm
 returns c =
     rw (sink (c .before .before .before .before) ∙ c .before .before .before .if1 .taken, ← c .before .before .opposite .ensures) (ap₂ _&&_ (c .before .has-arm .ensures) (c .has-arm2 .ensures))
 

@@ -33,13 +33,16 @@ rises-by-requires : tie.Need-rises-by-requires
 rises-by-requires c κs = search needs
 
 -- the test asks whether the sink is above the cell beside
-sink : (c : tie.After-same) → samePos (above (beside (posOf (c .before .before .before .before .before .before .before .args .table .now) (c .before .before .before .before .before .before .before .args .j)) (c .before .before .before .before .before .before .before .args .facing))) (posOf (c .before .before .before .before .before .before .before .args .table .now) (c .before .before .before .before .before .before .before .args .i)) ≡ c .same .result
+sink : (c : tie.After-same)
+    → let a = c .before .before .before .before .before .before .before .args in
+    samePos (above (beside (posOf (a .table .now) (a .j)) (a .facing))) (posOf (a .table .now) (a .i)) ≡ c .same .result
 sink c = rw (← c .before .before .before .before .pos-of .ensures, ← c .before .before .before .beside .ensures, ← c .before .before .above .ensures, ← c .before .pos-of2 .ensures) (sym (c .same .ensures))
 
 returns : tie.Need-returns
 unfolding fitsRise
 returns c =
-    rw (sink (c .before .before .before .before) ∙ c .before .before .before .if1 .taken, ← c .before .before .before .before .before .before .before .before .pos-of .ensures, ← c .before .before .before .before .before .before .before .beside .ensures, c .rises-by .ensures)
+    let at = c .before .before .before .before in
+    rw (sink at ∙ c .before .before .before .if1 .taken, ← at .before .before .before .before .pos-of .ensures, ← at .before .before .before .beside .ensures, c .rises-by .ensures)
     (ap₂ risesBy (c .before .before .traits-at .ensures) (c .before .arm-of .ensures))
 
 returns-2 : tie.Need-returns-2

@@ -1,0 +1,89 @@
+-- Laws of a fresh row: its length, and that it is valid.
+-- Assumes nothing.
+use mathlib.Core.Path.{_≡_, refl}
+use mathlib.Core.Logic.{by-cases}
+use mathlib.Core.Bool.{Bool, true, false, cond, _&&_, _||_}
+use Prim.Native.Nat.{ℕ, suc, _*_, _-_, _%_, _^_}
+use native.Mathlib.Nat.{pow-suc}
+use native.Mathlib.Decide.{ℕ-discrete}
+use native.Mathlib.Omega.{arith}
+use lib.ListN.{length}
+use lib.Dec.{eqb, leb, ltb}
+use lib.Pow.{pow-pos}
+use borrow.Author.Tests.{eq-eqb, ne-eqb, lt-ltb}
+use Rattle.columns.specs.Column.{Bytes, Column}
+use Rattle.blocks.specs.Kind.{RedstoneTorch, Repeater, Comparator, RedstoneLamp}
+use Rattle.world.specs.Rows.{kindOf, poweredOf, isPowered}
+use Rattle.electrical.specs.Emitted.{goodDevice}
+use Rattle.states.specs.Row.{delayOf, bitsSet, isCandidate, goodQueue, goodLamp, goodTorch, goodState}
+use Rattle.levels.specs.Numbers.{hasPower}
+use Rattle.fresh.specs.Fresh.{freshDevice, freshQueue, freshLamp, freshRow}
+use Rattle.states.proofs.Powers.{delay-range}
+use Rattle.states.proofs.Parts.{whole}
+
+pub length-fresh : (t : Bytes) (weak strong : Column) (i : ℕ) → length (freshRow t weak strong i) ≡ 16
+unfolding freshRow
+length-fresh t weak strong i = refl
+
+-- ---- it is valid
+
+-- a choice of 1 or 0 is at most 1
+one-or-none : (b : Bool) → leb (cond b 1 0) 1 ≡ true
+one-or-none true = refl
+one-or-none false = refl
+
+none-or-one : (b : Bool) → leb (cond b 0 1) 1 ≡ true
+none-or-one true = refl
+none-or-one false = refl
+
+-- a queue of m + 1 bits, filled
+filled-queue : (b : Bool) (m : ℕ) → (ltb (cond b 1 0 * (2 ^ suc m - 1)) (2 ^ suc m) && eqb (cond b 1 0 * (2 ^ suc m - 1) % 2) (cond b 1 0)) ≡ true
+filled-queue true m =
+    rw (lt-ltb (1 * (2 ^ suc m - 1)) (2 ^ suc m) (omega (arith, pow-suc 2 m, pow-pos m)))
+    (eq-eqb (1 * (2 ^ suc m - 1) % 2) 1 (omega (arith, pow-suc 2 m, pow-pos m)))
+filled-queue false m =
+    rw (lt-ltb (0 * (2 ^ suc m - 1)) (2 ^ suc m) (omega (arith, pow-suc 2 m, pow-pos m))) (eq-eqb (0 * (2 ^ suc m - 1) % 2) 0 (omega arith))
+
+lamp-of : (x power : Bool)
+    → cond x (leb (cond (x && power) 1 0) 1 && (leb 0 2 && (eqb (cond (x && power) 1 0) 1 || eqb 0 0))) (eqb (cond (x && power) 1 0) 0 && eqb 0 0) ≡ true
+lamp-of true true = refl
+lamp-of true false = refl
+lamp-of false true = refl
+lamp-of false false = refl
+
+either : (x : Bool) {a b : Bool} → a ≡ true → b ≡ true → cond x a b ≡ true
+either true g h = g
+either false g h = h
+
+module _ (t : Bytes) (i : ℕ) where
+  -- the device byte of a fresh row is of its kind
+  pub fresh-device : goodDevice (kindOf t i) (freshDevice t i) ≡ true
+  unfolding goodDevice freshDevice
+  fresh-device =
+      by-cases (ℕ-discrete (kindOf t i) Repeater) (λ k. rw k (one-or-none (isPowered t i)))
+      (λ l. by-cases (ℕ-discrete (kindOf t i) RedstoneTorch) (λ k. rw k (none-or-one (eqb (poweredOf t i) 1)))
+      (λ m. by-cases (ℕ-discrete (kindOf t i) Comparator) (λ k. rw k)
+      (λ n. rw (ne-eqb (kindOf t i) Repeater l, ne-eqb (kindOf t i) RedstoneTorch m, ne-eqb (kindOf t i) Comparator n))))
+
+  bits : suc (delayOf t i - 1) ≡ delayOf t i
+  bits = omega (arith, delay-range t i)
+
+  fresh-queue : (weak strong : Column) → goodQueue t i (freshRow t weak strong i) ≡ true
+  unfolding goodQueue freshRow freshQueue freshDevice
+  fresh-queue weak strong =
+      by-cases (ℕ-discrete (kindOf t i) Repeater)
+      (λ k. rw (k, ← bits) (filled-queue (isPowered t i) (delayOf t i - 1)))
+      (λ n. rw (ne-eqb (kindOf t i) Repeater n))
+
+  -- a fresh row is valid
+  pub fresh-good : (weak strong : Column) → goodState t i (freshRow t weak strong i) ≡ true
+  unfolding freshRow goodLamp goodTorch freshLamp bitsSet isCandidate
+  fresh-good weak strong =
+      whole t i (freshRow t weak strong i)
+      (record {
+        device = fresh-device;
+        queue = fresh-queue weak strong;
+        lamp = lamp-of (eqb (kindOf t i) RedstoneLamp) (hasPower weak strong i);
+        torch = either (eqb (kindOf t i) RedstoneTorch) refl refl;
+        rest = refl;
+      })

@@ -1,0 +1,2 @@
+-- Laws of good rows.
+pub mod Fields

@@ -1,0 +1,24 @@
+-- `layout::good_kind` meets its contract. Assumes nothing.
+use borrow.Author.Needs.{needs}
+use Rattle.layout.proofs.good_kind.Statement.{statement}
+use Rattle.layout.proofs.good_kind.Tie as tie
+
+byte-of-requires : tie.Need-byte-of-requires
+byte-of-requires c κs = search needs
+
+byte-of-requires-2 : tie.Need-byte-of-requires-2
+byte-of-requires-2 c κs = search needs
+
+byte-of-requires-3 : tie.Need-byte-of-requires-3
+byte-of-requires-3 c κs = search needs
+
+byte-of-requires-4 : tie.Need-byte-of-requires-4
+byte-of-requires-4 c κs = search needs
+
+returns : tie.Need-returns
+returns c = cc
+
+pub good-kind-spec : {M : Type 1} → statement M
+good-kind-spec =
+    tie.close
+    (tie.spec byte-of-requires byte-of-requires-2 byte-of-requires-3 byte-of-requires-4 returns)

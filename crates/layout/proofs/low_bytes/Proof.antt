@@ -1,0 +1,65 @@
+-- `layout::low_bytes` meets its contract. The loop's invariant: the bytes passed are low. Assumes nothing.
+use borrow.Author.Needs.{needs}
+use mathlib.Core.Path.{_≡_, refl, sym}
+use mathlib.Core.Bool.{true, false}
+use Prim.Native.Nat.{_-_, _≤_}
+use native.Mathlib.Omega.{arith}
+use lib.ListN.{getD}
+use lib.Dec.{leb}
+use borrow.Author.Tests.{lt-leb, le-leb}
+use Rattle.columns.specs.First.{allBelow}
+use Rattle.columns.proofs.First.{all-more, all-fails}
+use Rattle.layout.proofs.low_bytes.Statement.{statement}
+use Rattle.layout.proofs.low_bytes.Tie as tie
+
+abbrev Inv-loop : tie.InvT-loop
+Inv-loop profile k₀ k = (k ≤ 13) × (allBelow (λ b. leb (getD profile b 0) 31) k ≡ true)
+
+abbrev μ-loop : tie.MeasureT-loop
+μ-loop profile k₀ k = 13 - k
+
+loop-holds : tie.Need-loop-holds Inv-loop μ-loop
+loop-holds c = (omega arith, refl)
+
+byte-at-requires : tie.Need-byte-at-requires Inv-loop μ-loop
+byte-at-requires c κs = search needs
+
+returns : tie.Need-returns Inv-loop μ-loop
+returns c =
+    let l = c .before .before .before in
+    let a = l .before .before .args .profile .now in
+    let e : leb (getD a (l .loop .k) 0) 31 ≡ false = lt-leb (getD a (l .loop .k) 0) 31 (omega (arith, c .before .byte-at .ensures)) in
+    sym (all-fails (λ b. leb (getD a b 0) 31) 13 (l .loop .k) (omega arith) e)
+
+add-k : tie.Need-add-k Inv-loop μ-loop
+add-k c = omega arith
+
+loop-less : tie.Need-loop-less Inv-loop μ-loop
+loop-less c = omega arith
+
+loop-again : tie.Need-loop-again Inv-loop μ-loop
+loop-again c =
+    let l = c .before .before .before in
+    let a = l .before .before .args .profile .now in
+    let e : leb (getD a (l .loop .k) 0) 31 ≡ true = le-leb (getD a (l .loop .k) 0) 31 (omega (arith, c .before .byte-at .ensures)) in
+    (omega arith, all-more (λ b. leb (getD a b 0) 31) (l .loop .k) (l .loop .inv .1) e)
+
+returns-2 : tie.Need-returns-2 Inv-loop μ-loop
+returns-2 c =
+    let l = c .before in
+    let e : l .loop .k ≡ 13 = omega arith in
+    sym (rw e at (l .loop .inv .1))
+
+pub low-bytes-spec : {M : Type 1} → statement M
+low-bytes-spec =
+    tie.close
+    (tie.spec
+    Inv-loop
+    μ-loop
+    loop-holds
+    byte-at-requires
+    returns
+    add-k
+    loop-less
+    loop-again
+    returns-2)

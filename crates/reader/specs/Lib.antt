@@ -1,0 +1,1 @@
+-- The crate has no definition of its own: the look-ups are those of `world`.

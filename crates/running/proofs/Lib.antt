@@ -1,0 +1,4 @@
+pub mod Many
+pub mod States
+pub mod Valid
+pub mod Running

@@ -1,0 +1,123 @@
+-- Laws of a call while it runs: what settling leaves, and one tick and many in the code's steps.
+-- Assumes nothing.
+use mathlib.Core.Path.{_≡_, ap, sym, _∙_}
+use Prim.Native.Nat.{ℕ, _+_}
+use lib.ListN.{length}
+use borrow.Author.Tests.{eq-eqb, le-leb}
+use Rattle.columns.specs.Column.{Bytes, Column}
+use Rattle.refusals.specs.declared.Checked.the-variants.{Accepted}
+use Rattle.refusals.specs.Check.{IsAccepted}
+use Rattle.electrical.specs.Emitted.{IsValid}
+use Rattle.electrical.specs.Answer.{roundsOf, settled, checkCall}
+use Rattle.electrical.proofs.Demand.{rounds-range}
+use Rattle.rounds.specs.declared.Outcome.{Outcome}
+use Rattle.rounds.specs.Outcome.{settledIn, outcomeOf, Solves}
+use Rattle.levels.specs.Numbers.{numbers}
+use Rattle.updates.specs.State.{devicesOf, IsValidState}
+use Rattle.updates.specs.Tick.{withDevices, withLamps, settledOf, setDevices, setLamps, tick, ticks}
+use Rattle.running.specs.Running.{ColumnLengths, Ready, HoldsSettled, Settled}
+use Rattle.running.proofs.Many.{ticks-none, ticks-next}
+use Rattle.running.proofs.States.{length-ticks, tick-devices}
+use Rattle.running.proofs.Valid.{valid-state, devices-of-valid, set-devices-valid, ticks-valid}
+
+-- ---- settling
+
+pub call-accepted : (p t : Bytes) (d signal weak strong : Column) → IsAccepted p t → IsValid t d → ColumnLengths t d signal weak strong
+    → checkCall p t d (length signal) (length weak) (length strong) ≡ Accepted
+unfolding checkCall
+call-accepted p t d signal weak strong a v r =
+    rw (a, v, eq-eqb _ _ (r .signal-rows), eq-eqb _ _ (r .weak-rows), eq-eqb _ _ (r .strong-rows))
+
+-- "so settle with a limit from 17 up never calls it unsettled"
+pub solved : (p t : Bytes) (d signal weak strong signal′ weak′ strong′ : Column) {r : Outcome}
+    → Solves (roundsOf p t d) (settled p t d) 17 signal weak strong signal′ weak′ strong′ r
+    → (r ≡ settledIn (roundsOf p t d)) × HoldsSettled p t d signal′ weak′ strong′
+unfolding outcomeOf
+solved p t d signal weak strong signal′ weak′ strong′ s =
+    let e = le-leb (roundsOf p t d) 17 (rounds-range p t d .1) in (
+      rw e at (s .answer),
+      record { signals = rw e at (s .columns .signals); weaks = rw e at (s .columns .weaks); strongs = rw e at (s .columns .strongs) },
+    )
+
+-- ---- room stays
+
+module _ {t : Bytes} {d signal weak strong d′ signal′ weak′ strong′ : Column} where
+  pub lengths-kept : ColumnLengths t d signal weak strong → length d′ ≡ length d → length signal′ ≡ length signal → length weak′ ≡ length weak
+      → length strong′ ≡ length strong → ColumnLengths t d′ signal′ weak′ strong′
+  lengths-kept r a b c e =
+      record {
+        device-rows = a ∙ r .device-rows;
+        signal-rows = b ∙ r .signal-rows;
+        weak-rows = c ∙ r .weak-rows;
+        strong-rows = e ∙ r .strong-rows;
+      }
+
+-- ---- a state that is ready to be settled
+
+pub ready : (p t st : Bytes) → IsAccepted p t → IsValidState t st → Ready p t st
+ready p t st a v = record { accepted = a; long = valid-state t st v .sized; valid = devices-of-valid t st v }
+
+-- and so is the state once its devices are set
+pub ready-next : (p t st st₁ : Bytes) → st₁ ≡ setDevices p t st → IsAccepted p t → IsValidState t st → Ready p t st₁
+ready-next p t st st₁ e a v = rw e (ready p t (setDevices p t st) a (set-devices-valid p t st v))
+
+-- the columns are settled by the devices of the state
+pub settles : {p t st : Bytes} {d signal weak strong : Column} → d ≡ devicesOf t st → HoldsSettled p t d signal weak strong → Settled p t st d signal weak strong
+settles e s = record { devices = e; holds = rw e at s }
+
+-- ---- a tick
+
+module _ {p t st : Bytes} {d signal weak strong : Column} (h : Settled p t st d signal weak strong) where
+  -- the devices, from the old columns
+  pub next-devices : withDevices p t d (numbers signal weak strong) st ≡ setDevices p t st
+  unfolding setDevices settledOf
+  next-devices = rw (h .devices, h .holds .signals, h .holds .weaks, h .holds .strongs)
+
+  -- the lamps, from the new ones
+  pub next-lamps : withLamps t weak strong st ≡ setLamps p t st
+  unfolding setLamps settledOf
+  next-lamps = rw (h .holds .weaks, h .holds .strongs)
+
+-- what a tick leaves: the state, the rounds and the columns
+pub record Ticked (p t st st′ : Bytes) (d signal weak strong : Column) (r : ℕ) : Type 0 where
+  pub state : st′ ≡ tick p t st
+  pub rounds : r ≡ roundsOf p t (devicesOf t st′)
+  pub columns : Settled p t st′ d signal weak strong
+
+-- st becomes st₁ by its devices, settled, and then st₂ by its lamps
+module _ {p t st st₁ st₂ : Bytes} {d signal weak strong : Column} {r : ℕ} where
+  pub ticked : IsValidState t st → st₁ ≡ setDevices p t st → Settled p t st₁ d signal weak strong → r ≡ roundsOf p t (devicesOf t st₁)
+      → st₂ ≡ withLamps t weak strong st₁ → Ticked p t st st₂ d signal weak strong r
+  unfolding tick
+  ticked v e s k f =
+      let next : st₂ ≡ tick p t st = f ∙ next-lamps s ∙ ap (setLamps p t) e in
+      let same : devicesOf t st₂ ≡ devicesOf t st₁ =
+      ap (devicesOf t) next ∙ tick-devices p t st (valid-state t st v .sized) ∙ ap (devicesOf t) (sym e) in
+      record {
+        state = next;
+        rounds = k ∙ ap (roundsOf p t) (sym same);
+        columns = record { devices = s .devices ∙ sym same; holds = rw same (s .holds) };
+      }
+
+-- ---- many ticks: what n of them leave
+
+pub record Ticking (n : ℕ) (p t st st′ : Bytes) (d signal weak strong : Column) (r : ℕ) : Type 0 where
+  pub state : st′ ≡ ticks n p t st
+  pub rounds : r ≡ roundsOf p t (devicesOf t st′)
+  pub columns : Settled p t st′ d signal weak strong
+
+pub ticking-none : {p t st : Bytes} {d signal weak strong : Column} {r : ℕ} → r ≡ roundsOf p t (devicesOf t st) → Settled p t st d signal weak strong
+    → Ticking 0 p t st st d signal weak strong r
+ticking-none {p} {t} {st} k s = record { state = sym (ticks-none p t st); rounds = k; columns = s }
+
+module _ {n : ℕ} {p t st st′ : Bytes} {d signal weak strong : Column} {r : ℕ} (g : Ticking n p t st st′ d signal weak strong r) where
+  pub ticking-valid : IsValidState t st → IsValidState t st′
+  ticking-valid v = rw (g .state) (ticks-valid n p t st v)
+
+  pub ticking-long : IsValidState t st → length st′ ≡ length st
+  ticking-long v = let s = valid-state t st v .sized in ap length (g .state) ∙ length-ticks p t n st s ∙ sym s
+
+  pub ticking-more : {st″ : Bytes} {d′ signal′ weak′ strong′ : Column} {r′ : ℕ} → Ticked p t st′ st″ d′ signal′ weak′ strong′ r′
+      → Ticking (n + 1) p t st st″ d′ signal′ weak′ strong′ r′
+  ticking-more k =
+      record { state = k .state ∙ ap (tick p t) (g .state) ∙ sym (ticks-next p t n st); rounds = k .rounds; columns = k .columns }

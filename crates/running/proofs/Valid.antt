@@ -1,0 +1,113 @@
+-- Laws of valid states: what the check says of one, that a tick keeps it valid, that the fresh state is valid, and that its devices are.
+-- Assumes nothing.
+use mathlib.Core.Path.{_≡_, ap}
+use mathlib.Core.Bool.{true, not}
+use Prim.Native.Nat.{ℕ, zero, suc, _*_, _<_}
+use lib.ListN.{length}
+use lib.Dec.{eqb}
+use borrow.Author.Tests.{eqb-true, eq-eqb, not-false}
+use Rattle.columns.specs.Column.{Bytes}
+use Rattle.columns.proofs.Columns.{length-tabulate, row-tabulate}
+use Rattle.columns.proofs.Parts.{length-concatRows, part-concatRows}
+use Rattle.world.specs.Rows.{rows}
+use Rattle.refusals.proofs.Passed.{passed-values, values-pass}
+use Rattle.electrical.specs.Emitted.{IsValid}
+use Rattle.electrical.specs.Answer.{settled}
+use Rattle.electrical.proofs.Devices.{devices-valid}
+use Rattle.states.specs.Row.{deviceOf, goodState}
+use Rattle.fresh.specs.Fresh.{freshDevice, freshRow}
+use Rattle.states.proofs.Parts.{parts, whole}
+use Rattle.fresh.proofs.FreshRows.{length-fresh, fresh-device, fresh-good}
+use Rattle.steps.proofs.Valid.{device-good, lamp-good}
+use Rattle.updates.specs.State.{sixteen, devicesOf, isBadState, checkState, IsValidState, freshDevices, freshState}
+use Rattle.updates.specs.Tick.{numbersOf, settledOf, setDevices, tick, ticks}
+use Rattle.running.proofs.States.{row-length, length-set-devices, length-tick, next, device-row, tick-row}
+
+pub record Stated (t st : Bytes) : Type 0 where
+  pub sized : length st ≡ rows t * 16
+  pub good : (i : ℕ) → i < rows t → goodState t i (sixteen st i) ≡ true
+
+pub valid-state : (t st : Bytes) → IsValidState t st → Stated t st
+unfolding checkState
+valid-state t st h =
+    let (sized, good) = passed-values (eqb (length st) (rows t * 16)) (isBadState t st) (rows t) h in
+    record { sized = eqb-true _ _ sized; good = λ i l. not-false _ (good i l) }
+
+pub state-valid : (t st : Bytes) → Stated t st → IsValidState t st
+unfolding checkState
+state-valid t st v =
+    values-pass (eqb (length st) (rows t * 16)) (isBadState t st) (rows t) (eq-eqb _ _ (v .sized)) (λ i l. ap not (v .good i l))
+
+-- ---- the devices of a valid state, and of a fresh one
+
+pub devices-of-valid : (t st : Bytes) → IsValidState t st → IsValid t (devicesOf t st)
+unfolding devicesOf
+devices-of-valid t st h =
+    let v = valid-state t st h in
+    devices-valid t (devicesOf t st)
+    (record {
+      sized = length-tabulate (rows t) 0 _;
+      good = λ i l. rw (row-tabulate (rows t) (λ i. deviceOf (sixteen st i)) i l) (parts t i (sixteen st i) (v .good i l) .device);
+    })
+
+pub fresh-devices-valid : (t : Bytes) → IsValid t (freshDevices t)
+unfolding freshDevices
+fresh-devices-valid t =
+    devices-valid t (freshDevices t)
+    (record {
+      sized = length-tabulate (rows t) 0 _;
+      good = λ i l. rw (row-tabulate (rows t) (freshDevice t) i l) (fresh-device t i);
+    })
+
+-- ---- a tick keeps a valid state valid
+
+module _ (p t st : Bytes) (h : IsValidState t st) where
+  old : Stated t st
+  old = valid-state t st h
+
+  -- once its devices are set
+  pub set-devices-valid : IsValidState t (setDevices p t st)
+  set-devices-valid =
+      state-valid t (setDevices p t st)
+      (record {
+        sized = length-set-devices p t st (old .sized);
+        good = λ i l.
+            let r = sixteen st i in
+            rw (device-row p t st (old .sized) i l)
+            (whole t i _ (device-good p t (devicesOf t st) (numbersOf (settledOf p t st)) i r (row-length t st (old .sized) i l) (parts t i r (old .good i l))));
+      })
+
+module _ (p t st : Bytes) (h : IsValidState t st) where
+  half : Stated t (setDevices p t st)
+  half = valid-state t (setDevices p t st) (set-devices-valid p t st h)
+
+  -- and once its lamps are
+  pub tick-valid : IsValidState t (tick p t st)
+  tick-valid =
+      let long = valid-state t st h .sized in
+      state-valid t (tick p t st)
+      (record {
+        sized = length-tick p t st long;
+        good = λ i l.
+            let r = sixteen (setDevices p t st) i in
+            rw (tick-row p t st long i l)
+            (whole t i _ (lamp-good t (next p t st .weak) (next p t st .strong) i r (row-length t (setDevices p t st) (half .sized) i l) (parts t i r (half .good i l))));
+      })
+
+pub ticks-valid : (n : ℕ) (p t st : Bytes) → IsValidState t st → IsValidState t (ticks n p t st)
+unfolding ticks
+ticks-valid zero p t st h = h
+ticks-valid (suc n) p t st h = ticks-valid n p t (tick p t st) (tick-valid p t st h)
+
+-- ---- the fresh state is valid
+
+pub fresh-valid : (p t : Bytes) → IsValidState t (freshState p t)
+unfolding freshState
+fresh-valid p t =
+    let s = settled p t (freshDevices t) in
+    let wide : (i : ℕ) → i < rows t → length (freshRow t (s .weak) (s .strong) i) ≡ 16 = λ i l. length-fresh t (s .weak) (s .strong) i in
+    state-valid t (freshState p t)
+    (record {
+      sized = length-concatRows 16 (freshRow t (s .weak) (s .strong)) (rows t) wide;
+      good = λ i l. rw (part-concatRows 16 (freshRow t (s .weak) (s .strong)) (rows t) wide i l) (fresh-good t i (s .weak) (s .strong));
+    })

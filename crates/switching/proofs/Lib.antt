@@ -1,0 +1,2 @@
+-- Laws of switched tables.
+pub mod Switched

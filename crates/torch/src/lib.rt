@@ -1,0 +1,71 @@
+// A torch's step.
+use columns::Found;
+use columns::larger;
+use levels::has_power;
+use levels::number;
+use states::bits::is_candidate;
+use states::row::toggles_of;
+use world::find::find_at;
+ghost use mathlib.Core.Path.{_≡_};
+ghost use lib.ListN.{length};
+ghost use Rattle.torch.specs.Step.{torchSupportIsPowered, nextToggles, nextCandidate, setToggles, torchRow};
+
+fn torch_support_is_powered(
+    profile: &[u8],
+    table: &[u8],
+    weak: &[u8],
+    strong: &[u8],
+    row: usize,
+) -> bool
+    ensures { λ r. ⌜ r ≡ torchSupportIsPowered (now (profile .entry)) (now (table .entry)) (now (weak .entry)) (now (strong .entry)) row ⌝ }
+{
+    let Found::At(j) = find_at(table, world::row::support_pos(table, row)) else {
+        return false;
+    };
+    let conducts = world::traits::redstone_traits(profile, table, j).conducts();
+    conducts & has_power(weak, strong, j)
+}
+
+// A toggle more at bit 0; what is older than 30 ticks is dropped.
+fn next_toggles(old: u32, toggled: bool) -> u32
+    ensures { λ r. ⌜ r ≡ nextToggles old toggled ⌝ }
+{
+    let kept = old % 1073741824 * 2;
+    if toggled { kept + 1 } else { kept }
+}
+
+fn next_candidate(old: u8, toggles: u32) -> u8
+    ensures { λ r. ⌜ r ≡ nextCandidate old toggles ⌝ }
+{
+    larger(old, number(is_candidate(toggles)))
+}
+
+// Bytes 4 to 7, low byte first.
+fn set_toggles(sixteen: &mut [u8], toggles: u32)
+    requires { ⌜ length (now sixteen) ≡ 16 ⌝ }
+    ensures { λ _. ⌜ now (sixteen .exit) ≡ setToggles (now (sixteen .entry)) toggles ⌝ }
+{
+    sixteen[4] = (toggles % 256) as u8;
+    sixteen[5] = (toggles / 256 % 256) as u8;
+    sixteen[6] = (toggles / 65536 % 256) as u8;
+    sixteen[7] = (toggles / 16777216 % 256) as u8;
+}
+
+pub fn torch_step(
+    profile: &[u8],
+    table: &[u8],
+    weak: &[u8],
+    strong: &[u8],
+    row: usize,
+    sixteen: &mut [u8],
+)
+    requires { ⌜ length (now sixteen) ≡ 16 ⌝ }
+    ensures { λ _. ⌜ now (sixteen .exit) ≡ torchRow (now (profile .entry)) (now (table .entry)) (now (weak .entry)) (now (strong .entry)) row (now (sixteen .entry)) ⌝ }
+{
+    let lit = number(!torch_support_is_powered(profile, table, weak, strong, row));
+    let toggles = next_toggles(toggles_of(sixteen), lit != sixteen[0]);
+    let candidate = next_candidate(sixteen[8], toggles);
+    sixteen[0] = lit;
+    set_toggles(sixteen, toggles);
+    sixteen[8] = candidate;
+}

@@ -1,0 +1,45 @@
+-- `wire_answers::right::transfer_right` meets its contract. Assumes nothing.
+use borrow.Author.Needs.{needs}
+use Rattle.wire_answers.proofs.right.transfer_right.Statement.{statement}
+use Rattle.wire_answers.proofs.right.transfer_right.Tie as tie
+
+after-requires : tie.Need-after-requires
+after-requires c κs = search needs
+
+has-parts-requires : tie.Need-has-parts-requires
+has-parts-requires c κs = search needs
+
+slice-of-requires : tie.Need-slice-of-requires
+slice-of-requires c κs = search needs
+
+slice-of-requires-2 : tie.Need-slice-of-requires-2
+slice-of-requires-2 c κs = search needs
+
+pos-at-requires : tie.Need-pos-at-requires
+pos-at-requires c κs = search needs
+
+pos-at-requires-2 : tie.Need-pos-at-requires-2
+pos-at-requires-2 c κs = search needs
+
+byte-at-requires : tie.Need-byte-at-requires
+byte-at-requires c κs = search needs
+
+transfer-agrees-requires : tie.Need-transfer-agrees-requires
+transfer-agrees-requires c κs = search needs
+
+returns : tie.Need-returns
+returns c = cc
+
+pub transfer-right-spec : {M : Type 1} → statement M
+transfer-right-spec =
+    tie.close
+    (tie.spec
+    after-requires
+    has-parts-requires
+    slice-of-requires
+    slice-of-requires-2
+    pos-at-requires
+    pos-at-requires-2
+    byte-at-requires
+    transfer-agrees-requires
+    returns)
