@@ -25,6 +25,7 @@ mod name;
 mod nearest;
 mod output;
 mod picture;
+mod progress;
 mod refused;
 mod run;
 mod switch;

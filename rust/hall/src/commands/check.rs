@@ -3,11 +3,10 @@
 use std::collections::BTreeMap;
 use std::ffi::{OsStr, OsString};
 use std::fmt::Write as _;
-use std::io::{self, IsTerminal, Write};
+use std::io::Write;
 use std::sync::atomic::{AtomicBool, AtomicUsize, Ordering};
 use std::sync::mpsc::{self, Receiver, RecvTimeoutError};
 use std::thread;
-use std::time::{Duration, Instant};
 
 use crate::Refused;
 use crate::arguments::Arguments;
@@ -15,6 +14,7 @@ use crate::command::{Command, Failure, PROFILE, Status};
 use crate::expect::{Met, meet};
 use crate::input::{self, is_standard_input};
 use crate::name::counted;
+use crate::progress::{self, Progress};
 
 pub const COMMAND: Command = Command {
     name: "check",
@@ -35,10 +35,6 @@ Each file has a line: ok, DIFFERS or REFUSED. The files are run on all cores, an
     options: &[&PROFILE],
     run,
 };
-
-/// Of this long a time and more, a terminal sees how far it is.
-const LONG: Duration = Duration::from_secs(1);
-const BETWEEN_SIGHTS: Duration = Duration::from_millis(100);
 
 fn run(arguments: &Arguments, out: &mut dyn Write) -> Result<Status, Failure> {
     let files = &arguments.operands;
@@ -81,7 +77,7 @@ fn write_in_order(
     let (mut sum, mut waiting, mut progress) = (Sum::default(), BTreeMap::new(), Progress::new(files.len()));
     let mut written = 0;
     while written < files.len() {
-        match checked.recv_timeout(BETWEEN_SIGHTS) {
+        match checked.recv_timeout(progress::BETWEEN_SIGHTS) {
             Ok((number, found)) => drop(waiting.insert(number, found)),
             Err(RecvTimeoutError::Timeout) => {}
             Err(RecvTimeoutError::Disconnected) => break,
@@ -175,41 +171,4 @@ impl std::fmt::Display for Sum {
         write!(f, "{files}: {good} ok, {differing} DIFFERS, {refused} REFUSED; ")?;
         write!(f, "{}, {} not met", counted(self.expectations, "expectation"), self.differences)
     }
-}
-
-/// How far it is, on standard error where that is a terminal and it takes long.
-struct Progress {
-    files: usize,
-    is_terminal: bool,
-    is_shown: bool,
-    next: Instant,
-}
-
-impl Progress {
-    fn new(files: usize) -> Self {
-        Self { files, is_terminal: io::stderr().is_terminal(), is_shown: false, next: Instant::now() + LONG }
-    }
-
-    fn is_due(&self) -> bool {
-        self.is_terminal && self.next <= Instant::now()
-    }
-
-    fn show(&mut self, done: usize) {
-        write_error(&format!("{done} of {} files", self.files));
-        (self.is_shown, self.next) = (true, Instant::now() + BETWEEN_SIGHTS);
-    }
-
-    /// Takes it away, before other lines.
-    fn clear(&mut self) {
-        if self.is_shown {
-            write_error("\r\x1b[K");
-            self.is_shown = false;
-        }
-    }
-}
-
-/// What cannot be shown is no reason to stop.
-fn write_error(text: &str) {
-    let mut errors = io::stderr();
-    let _ = errors.write_all(text.as_bytes()).and_then(|()| errors.flush());
 }
