@@ -33,8 +33,8 @@ fn a_sentence_says_what_to_do() {
             "--switch 4:0,1,0=onn: found \"onn\", expected a setting: did you mean on?",
         ),
         (
-            &["run", LAMP, "--switch", "4:2,1,0=on"],
-            "--switch 4:2,1,0=on: found \"2,1,0\", expected the position of a lever, button or plate: a lamp stands \
+            &["run", LAMP, "--switch", "4:3,1,0=on"],
+            "--switch 4:3,1,0=on: found \"3,1,0\", expected the position of a lever, button or plate: a lamp stands \
              there.",
         ),
         (
@@ -79,17 +79,17 @@ fn help_is_given_wherever_it_is_asked_for() {
 
 #[test]
 fn options_may_stand_anywhere_and_with_an_equals_sign() {
-    let one = hall(&["run", LAMP, "--ticks", "5", "--switch", "1:0,1,0=on"]);
+    let one = hall(&["run", LAMP, "--ticks", "5", "--switch", "1:2,1,2=on"]);
     assert_eq!(one.status, Some(0));
-    assert!(one.text().contains("tick 1: lever 0,1,0 is switched on\n"));
-    assert_eq!(hall(&["run", "--switch=1:0,1,0=on", "--ticks=5", LAMP]).out, one.out);
+    assert!(one.text().contains("tick 1: lever 2,1,2 is switched on\n"));
+    assert_eq!(hall(&["run", "--switch=1:2,1,2=on", "--ticks=5", LAMP]).out, one.out);
 }
 
 /// Of a switch after the last tick it is said that it is not shown.
 #[test]
 fn a_switch_past_the_last_tick_is_told() {
-    let done = hall(&["run", LAMP, "--ticks", "5"]);
+    let done = hall(&["run", LAMP, "--ticks", "6"]);
     let text = done.text();
-    assert!(text.contains("From tick 4 on nothing changes, until the switch at tick 6.\n"), "{text}");
-    assert!(text.contains("Not shown: tick 6 switch 1,1,2 on; ask for more with --ticks.\n"), "{text}");
+    assert!(text.contains("From tick 5 on nothing changes, until the switch at tick 7.\n"), "{text}");
+    assert!(text.contains("Not shown: tick 7 switch 0,1,0 off; ask for more with --ticks.\n"), "{text}");
 }
