@@ -1,7 +1,9 @@
-// The map editor's four calls. Each answers the rounds of its settling, 1 to 17, or 65,536 times the number of the refusal that falls on it
-// plus the row at fault; a refused call writes no byte.
+// The map editor's calls. Each answers 65,536 times the number of the refusal that falls on it plus the row at fault, and then writes no byte;
+// else the rounds of its settling, 1 to 17, or what its own comment says.
 ghost use lib.IntN.{ℤ};
 ghost use Rattle.places.specs.Places.{cell};
+ghost use Rattle.supports.specs.Supports.{Listed};
+ghost use Rattle.redraw.specs.Redraw.{Redraws};
 ghost use Rattle.electrical.specs.Answer.{Settles};
 ghost use Rattle.updates.specs.Calls.{Fresh, Ticks, Switches};
 
@@ -81,4 +83,20 @@ pub extern "C" fn redstone_switch(
         weak,
         strong,
     )
+}
+
+// The table with the arms of every dust drawn anew; answers 0.
+#[no_mangle]
+pub extern "C" fn redstone_redraw(profile: &[u8], table: &mut [u8]) -> u32
+    ensures { λ r. ⌜ Redraws (now (profile .entry)) (now (table .entry)) (now (table .exit)) r ⌝ }
+{
+    redraw::update_wire_shapes(profile, table)
+}
+
+// The numbers of the rows whose support is missing, at the front of the column, the rest of it untouched; answers how many there are.
+#[no_mangle]
+pub extern "C" fn redstone_supports(profile: &[u8], table: &[u8], rows: &mut [u16]) -> u32
+    ensures { λ r. ⌜ Listed (now (profile .entry)) (now (table .entry)) (now (rows .entry)) (now (rows .exit)) r ⌝ }
+{
+    supports::support_issues(profile, table, rows)
 }

@@ -7,6 +7,7 @@ mod named;
 #[cfg(not(no_original))]
 mod original;
 mod proved;
+mod risks;
 mod words;
 
 use std::fmt::{self, Display, Formatter};
@@ -17,6 +18,7 @@ pub use named::{named_tests, tests_in};
 #[cfg(not(no_original))]
 pub use original::Original;
 pub use proved::Proved;
+pub use risks::check_risks;
 
 /// What is wrong in the document.
 #[derive(Debug)]

@@ -123,7 +123,7 @@ impl Answers<Call> for Probe<'_> {
 fn number(answered: Result<Rounds, ::redstone::Refusal>) -> u32 {
     match answered {
         Ok(rounds) => rounds.get(),
-        Err(::redstone::Refusal { number, row }) => Refusal { number, row }.code(),
+        Err(::redstone::Refusal { number, row, .. }) => Refusal { number, row }.code(),
     }
 }
 

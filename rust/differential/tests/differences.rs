@@ -1,10 +1,14 @@
-//! docs/DIFFERENCES.md: its tables answer as is written under them, and the tests that it names are there.
+//! docs/DIFFERENCES.md: its tables answer as is written under them, its entries have their risks, and the tests that it
+//! names are there.
 
 use std::fs;
 use std::io::Write;
 use std::path::{Path, PathBuf};
 
-use differential::differences::{Example, Fault, Proved, check, examples, named_tests, tests_in};
+use differential::differences::{
+    Example, Fault, Proved, check, check_risks, examples, named_tests, tests_in,
+};
+use differential::probe::probe_shape_of_name;
 
 const DOCUMENT: &str = "docs/DIFFERENCES.md";
 
@@ -73,9 +77,32 @@ fn every_written_answer_counts() {
     }
 }
 
-const SETTLED: &str = "\
-#### 1. One block
+#[test]
+fn every_entry_has_its_risk() {
+    let entries = check_risks(&document()).unwrap_or_else(|fault| panic!("{DOCUMENT}: {fault}"));
+    writeln!(std::io::stdout(), "\n{DOCUMENT}: {entries} entries").expect("standard output can be written");
+}
 
+/// The name of entry 29, which no table has.
+#[test]
+fn stained_glass_by_name_is_plain() {
+    const PLAIN: u32 = 0;
+    let name = b"minecraft:red_stained_glass";
+    assert_eq!(probe_shape_of_name(name, b"", b""), PLAIN);
+    #[cfg(not(no_original))]
+    {
+        use differential::compare::Answers;
+        use differential::generate::{BENCH_PROFILE, Case};
+        use differential::oracle::Oracle;
+        use differential::world::{Name, WorldQuery};
+
+        let case = Case { seed: 0, sort: "no rows", profile: BENCH_PROFILE.to_vec(), table: Vec::new() };
+        let name = Name { name: name.to_vec(), slab_type: Vec::new(), half: Vec::new() };
+        assert_eq!(Oracle::new(&case).answer(&WorldQuery::ShapeOfName(name)).number, PLAIN.into());
+    }
+}
+
+const SETTLED: &str = "\
 ```table
 0,0,0 Solid
 ```
@@ -97,14 +124,54 @@ row=0,0,0,15,0,0
 ```
 ";
 
+const ENTRIES: &str = "\
+### 1. One block
+
+```table
+0,0,0 Solid
+```
+```unsupported
+unsupported=none
+```
+
+### 3. Another
+
+```table
+0,0,0 Lever
+```
+```unsupported
+unsupported=0,0,0
+```
+";
+
+const RISKS: &str = "\
+## Checklist
+
+- [ ] A block (1).
+- [ ] Another
+  block (3).
+
+## By risk
+
+| risk | no. | direction | in the game |
+|---|---:|---|---|
+| high | 1 | + | One block |
+| low | 3 | support, - | Another |
+
+## High risk
+
+### 1. One block
+
+## Low risk
+
+### 3. Another
+";
+
 /// A text, and what takes its place.
 type Change = (&'static str, &'static str);
 
-const FAULTS_WHEN_SETTLED: [Change; 29] = [
+const FAULTS_WHEN_SETTLED: [Change; 26] = [
     (SETTLED, ""),
-    ("#### 1. One block", "#### 2. One block"),
-    ("#### 1. One block", "#### One block"),
-    ("#### 1. One block\n", "#### 1. One block\n#### 2. Another\n"),
     ("```table\n0,0,0 Solid\n```\n", ""),
     ("```table", "```tables"),
     ("```table", " ```table"),
@@ -147,22 +214,68 @@ const FAULTS_IN_A_RUN: [Change; 12] = [
     ("row=0,0,0,15,0,0\n", ""),
 ];
 
+const FAULTS_IN_ENTRIES: [Change; 6] = [
+    ("### 1. One block", "### One block"),
+    ("### 1. One block", "### One. One block"),
+    ("### 3. Another", "### 1. Another"),
+    ("### 1. One block\n", "### 1. One block\n### 2. Nothing\n"),
+    ("```table\n0,0,0 Lever\n```\n```unsupported\nunsupported=0,0,0\n```\n", ""),
+    ("```table\n0,0,0 Lever\n```\n```unsupported\nunsupported=0,0,0\n", "```unsupported\nunsupported=none\n"),
+];
+
+const FAULTS_IN_RISKS: [Change; 16] = [
+    ("(1)", "(3)"),
+    ("(3)", "(2)"),
+    (" (1)", ""),
+    ("\n  block (3)", ""),
+    ("(3)", "(three)"),
+    ("| high | 1 | + | One block |\n", ""),
+    ("| low | 3 | support, - | Another |\n", ""),
+    ("| high | 1 | + | One block |\n", "| high | 1 | + | One block |\n| high | 1 | + | One block |\n"),
+    ("| high | 1 | + | One block |\n", "| high | 1 | + | One block |\n| high | 2 | + | Nothing |\n"),
+    ("| high |", "| middle |"),
+    ("| low |", "| none |"),
+    ("| + |", "| up |"),
+    ("| + |", "| |"),
+    ("| One block |", "| Another |"),
+    ("## Low risk", "## Nowhere"),
+    (
+        "| high | 1 | + | One block |\n| low | 3 | support, - | Another |\n",
+        "| low | 3 | support, - | Another |\n| high | 1 | + | One block |\n",
+    ),
+];
+
+fn assert_each_is_reported<T>(document: &str, changes: &[Change], check: impl Fn(&str) -> Result<T, Fault>) {
+    check(document).unwrap_or_else(|fault| panic!("{fault}"));
+    for (text, other) in changes {
+        assert!(document.contains(text), "{text:?}");
+        let changed = document.replace(text, other);
+        assert!(check(&changed).is_err(), "{other:?} in place of {text:?} was not reported");
+    }
+}
+
 #[test]
 fn faults_are_reported() {
-    for (document, changes) in [(SETTLED, &FAULTS_WHEN_SETTLED[..]), (RUN, &FAULTS_IN_A_RUN)] {
-        check_proved(document).unwrap_or_else(|fault| panic!("{fault}"));
-        for (text, other) in changes {
-            assert!(document.contains(text), "{text:?}");
-            let changed = document.replace(text, other);
-            assert!(check_proved(&changed).is_err(), "{other:?} in place of {text:?} was not reported");
-        }
-    }
+    assert_each_is_reported(SETTLED, &FAULTS_WHEN_SETTLED, check_proved);
+    assert_each_is_reported(RUN, &FAULTS_IN_A_RUN, check_proved);
+    assert_each_is_reported(ENTRIES, &FAULTS_IN_ENTRIES, check_proved);
+    assert_each_is_reported(RISKS, &FAULTS_IN_RISKS, check_risks);
     assert!(named_tests("| what | no test |").is_err());
+}
+
+/// The document with the lines of one part alone, each where it stands.
+fn only(part: &str, document: &str) -> String {
+    let mut within = false;
+    let line = |text| {
+        within = str::strip_prefix(text, "## ").map_or(within, |heading| heading == part);
+        if within { text } else { "" }
+    };
+    document.lines().map(line).collect::<Vec<_>>().join("\n")
 }
 
 #[test]
 fn the_named_tests_are_there() {
-    let document = document();
+    let document = only("From the original", &document());
     let named = named_tests(&document).unwrap_or_else(|fault| panic!("{DOCUMENT}: {fault}"));
     let tests = ["rust/differential", "rust/redstone"]
         .map(|folder| tests_in(&in_repository(folder)).unwrap_or_else(|error| panic!("{folder}: {error}")));

@@ -1,15 +1,19 @@
 /*
- * The proved redstone calls: link libredstone.a, which `rt staticlib redstone` builds.
+ * The proved redstone calls, for C on x86-64 Linux: link libredstone.a, which `rt staticlib redstone` builds.
  *
- * All buffers are of bytes, each a pointer and then its length in bytes, and may have any length and content. No two
- * buffers of a call may overlap. A pointer must not be null, not even with length 0.
+ * Buffers. Each is a pointer and then its length in entries, and may have any length and content. No two buffers of a
+ * call may overlap. A pointer must not be null, not even with length 0. Entries are bytes, but for the rows of
+ * redstone_supports, which have 16 bits: that buffer stands at an even address.
  *
- * Answer. The rounds in which the table settled, 1 to 17, or where the call is refused 65536 times the refusal's
- * number plus the row at fault. A refused call writes no byte of any buffer. Any other call writes all of signal,
- * weak and strong, and what is said below.
+ * Threads and stack. There are no globals and nothing is allocated or kept: any thread may call at any time, over
+ * buffers that no other thread writes meanwhile. 48 KiB of free stack are enough for every call.
+ *
+ * Answer. Where the call is refused, 65536 times the refusal's number plus the row at fault, and no byte of any buffer
+ * is written. Else the rounds in which the table settled, 1 to 17, and all of signal, weak and strong are written;
+ * redstone_redraw and redstone_supports, which settle nothing, say below what they answer.
  *
  * Table. At most 1024 rows of 32 bytes, ordered by x, then y, then z, all positions different. Numbers have their low
- * byte first.
+ * byte first. y is up.
  *
  *   0-3, 4-7, 8-11  x, y, z, signed, each from -1000000 to 1000000
  *   12              kind: 1 Solid, 2 Transparent, 3 RedstoneWire (dust), 4 RedstoneTorch, 5 Repeater, 6 Comparator,
@@ -26,6 +30,16 @@
  *
  * A value whose given or stored byte is 0 is 0.
  *
+ *   - A repeater or comparator faces its output; its input is at the opposite side. Without a horizontal facing it has
+ *     neither.
+ *   - A lever, button or plate powers the block at its support offset, (0,-1,0) for the one below. Without an offset it
+ *     powers no block, and still gives its level to dust beside it. It is on where powered is true, with its power
+ *     level, at most 15, or 15 where none is given.
+ *   - A torch goes out while the block at its support offset has power. It starts lit, unless powered is false.
+ *   - A repeater starts off, unless powered is true. Its delay is in ticks: 1 where none is given or 0 is, 4 above 4.
+ *   - A comparator starts with its power level, or where none is given with 15 if powered is true and else with 0.
+ *   - Dust takes the arms that no entry is stored for from what stands around it.
+ *
  * Profile. 13 bytes, one for each kind from 0 (Air, always 0), a sum of: 1 supports components, 2 receives weak power,
  * 4 receives strong power, 8 repeater reads block power, 16 strong power drives dust.
  *
@@ -41,7 +55,10 @@
  *   8     burn-out candidate 0/1, 1 where eight or more toggle bits are set
  *   9-15  0
  *
- * Signal, weak, strong. A byte a row.
+ * Signal, weak, strong. A byte a row. The signal is the level that a source or device gives, and a dust's own. Strong
+ * power is what levers, buttons, plates, repeaters, comparators and redstone blocks give to a block. Weak power is what
+ * dust, and strongly powered neighbours, give to a block. Lamps, torches, repeaters and comparators answer to both;
+ * strong power alone drives dust.
  *
  * Refusals, tested in this order as far as the call has the input, 4 over all rows before 5, in 6 the length before a
  * value; the row is the first at fault for 4, 5 and a value in 6, and else 0.
@@ -62,9 +79,56 @@
 #include <stddef.h>
 #include <stdint.h>
 
-/* The number of the refusal that an answer stands for, 0 where it is a number of rounds; and the refusal's row. */
+/* The number of the refusal that an answer stands for, 0 where it is none; and the refusal's row. */
 #define REDSTONE_REFUSAL(answer) ((uint32_t)(answer) >> 16)
 #define REDSTONE_ROW(answer) ((uint32_t)(answer) & 0xffff)
+
+/* Sizes. */
+#define REDSTONE_PROFILE_BYTES 13
+#define REDSTONE_ROW_BYTES 32
+#define REDSTONE_STATE_BYTES 16
+#define REDSTONE_MOST_ROWS 1024
+#define REDSTONE_MOST_ROUNDS 17
+#define REDSTONE_FARTHEST 1000000
+
+/* Byte 12 of a row. */
+#define REDSTONE_KIND_SOLID 1
+#define REDSTONE_KIND_TRANSPARENT 2
+#define REDSTONE_KIND_REDSTONE_WIRE 3
+#define REDSTONE_KIND_REDSTONE_TORCH 4
+#define REDSTONE_KIND_REPEATER 5
+#define REDSTONE_KIND_COMPARATOR 6
+#define REDSTONE_KIND_LEVER 7
+#define REDSTONE_KIND_BUTTON 8
+#define REDSTONE_KIND_PRESSURE_PLATE 9
+#define REDSTONE_KIND_REDSTONE_LAMP 10
+#define REDSTONE_KIND_REDSTONE_BLOCK 11
+#define REDSTONE_KIND_PISTON 12
+
+/* Byte 13. */
+#define REDSTONE_FACING_NORTH 1
+#define REDSTONE_FACING_EAST 2
+#define REDSTONE_FACING_SOUTH 3
+#define REDSTONE_FACING_WEST 4
+#define REDSTONE_FACING_UP 5
+#define REDSTONE_FACING_DOWN 6
+
+/* Bytes 24 to 27. */
+#define REDSTONE_ARM_NONE 1
+#define REDSTONE_ARM_SIDE 2
+#define REDSTONE_ARM_UP 3
+
+/* Byte 28. */
+#define REDSTONE_SHAPE_PLAIN 0
+#define REDSTONE_SHAPE_BOTTOM_SLAB 1
+#define REDSTONE_SHAPE_TOP_SLAB 2
+#define REDSTONE_SHAPE_DOUBLE_SLAB 3
+#define REDSTONE_SHAPE_BOTTOM_STAIRS 4
+#define REDSTONE_SHAPE_TOP_STAIRS 5
+#define REDSTONE_SHAPE_GLASS 6
+
+/* The bench's own profile, to initialise an array: Solid and RedstoneLamp 31, Transparent and RedstoneBlock 1. */
+#define REDSTONE_BENCH_PROFILE {0, 31, 1, 0, 0, 0, 0, 0, 0, 0, 31, 1, 0}
 
 #ifdef __cplusplus
 extern "C" {
@@ -89,7 +153,8 @@ uint32_t redstone_settle(
     uint8_t *weak, size_t weak_length,
     uint8_t *strong, size_t strong_length);
 
-/* Moves `state`, which stands at tick number `tick`, on by `ticks` ticks, and settles it. */
+/* Moves `state`, which stands at tick number `tick`, on by `ticks` ticks, of a tenth of a second each, and settles it.
+ * Any number of ticks is run, however long it takes. */
 uint32_t redstone_tick(
     const uint8_t *profile, size_t profile_length,
     const uint8_t *table, size_t table_length,
@@ -109,6 +174,19 @@ uint32_t redstone_switch(
     uint8_t *signal, size_t signal_length,
     uint8_t *weak, size_t weak_length,
     uint8_t *strong, size_t strong_length);
+
+/* Draws the arms of every dust anew: writes bytes 23 to 27 of its row. Answers 0. */
+uint32_t redstone_redraw(
+    const uint8_t *profile, size_t profile_length,
+    uint8_t *table, size_t table_length);
+
+/* Writes the numbers of the rows that nothing holds up to the front of `rows`, which has one entry a row of the table;
+ * the rest of it is untouched. They are dust, torches, repeaters, comparators and levers whose support offset is not
+ * given, or leads to no block or to one that does not support components. Answers how many they are. */
+uint32_t redstone_supports(
+    const uint8_t *profile, size_t profile_length,
+    const uint8_t *table, size_t table_length,
+    uint16_t *rows, size_t rows_length);
 
 #ifdef __cplusplus
 }

@@ -1,11 +1,13 @@
-//! What a call answers: rounds, or a refusal.
+//! What a call answers: a number, or a refusal.
 
 use std::error::Error;
 use std::fmt::{self, Display, Formatter};
 
+use crate::Fault;
+
 /// In how many rounds a table settled, the answering one counted.
 #[derive(Clone, Copy, Debug, Eq, Hash, Ord, PartialEq, PartialOrd)]
-pub struct Rounds(u32);
+pub struct Rounds(pub(crate) u32);
 
 impl Rounds {
     /// No accepted table takes more, so a limit of this many is never too low.
@@ -20,12 +22,15 @@ impl Rounds {
 
 /// Why a call wrote nothing.
 #[derive(Clone, Copy, Debug, Eq, Hash, PartialEq)]
+#[non_exhaustive]
 pub struct Refusal {
     /// The number of the refusal, from 1 on.
     pub number: u32,
     /// The first row at fault. 0 where the refusal is not about a row, or where a state or device column is of a
     /// wrong length.
     pub row: usize,
+    /// What exactly is wrong.
+    pub fault: Fault,
 }
 
 /// The refusals, in the order in which a call tests for them.
@@ -54,83 +59,63 @@ pub enum RefusalKind {
     Unknown,
 }
 
-impl Refusal {
-    /// What the number stands for.
-    #[must_use]
-    pub fn kind(self) -> RefusalKind {
-        match self.number {
-            1 => RefusalKind::Profile,
-            2 => RefusalKind::Ragged,
-            3 => RefusalKind::Crowded,
-            4 => RefusalKind::BadRow,
-            5 => RefusalKind::Misplaced,
-            6 => RefusalKind::BadState,
-            7 => RefusalKind::Column,
-            8 => RefusalKind::Unsettled,
-            9 => RefusalKind::ClockEnd,
-            _ => RefusalKind::Unknown,
-        }
+/// Each number, what it stands for, and its word.
+const REFUSALS: [(u32, RefusalKind, &str); 9] = [
+    (1, RefusalKind::Profile, "profile"),
+    (2, RefusalKind::Ragged, "ragged"),
+    (3, RefusalKind::Crowded, "crowded"),
+    (4, RefusalKind::BadRow, "bad row"),
+    (5, RefusalKind::Misplaced, "misplaced"),
+    (6, RefusalKind::BadState, "bad state"),
+    (7, RefusalKind::Column, "column"),
+    (8, RefusalKind::Unsettled, "unsettled"),
+    (9, RefusalKind::ClockEnd, "clock end"),
+];
+
+impl RefusalKind {
+    /// What a number stands for.
+    pub(crate) fn of(number: u32) -> Self {
+        REFUSALS.iter().find(|(known, ..)| *known == number).map_or(Self::Unknown, |(_, kind, _)| *kind)
+    }
+
+    /// The refusal's word, as document 01 has it.
+    fn word(self) -> &'static str {
+        REFUSALS.iter().find(|(_, known, _)| *known == self).map_or("unknown", |(.., word)| word)
     }
 }
 
 /// The refusal's word.
 impl Display for RefusalKind {
     fn fmt(&self, f: &mut Formatter<'_>) -> fmt::Result {
-        f.write_str(match self {
-            Self::Profile => "profile",
-            Self::Ragged => "ragged",
-            Self::Crowded => "crowded",
-            Self::BadRow => "bad row",
-            Self::Misplaced => "misplaced",
-            Self::BadState => "bad state",
-            Self::Column => "column",
-            Self::Unsettled => "unsettled",
-            Self::ClockEnd => "clock end",
-            Self::Unknown => "unknown",
-        })
+        f.pad(self.word())
     }
 }
 
-/// The number, the word, and what to do.
+impl Refusal {
+    /// What the number stands for.
+    #[must_use]
+    pub fn kind(self) -> RefusalKind {
+        RefusalKind::of(self.number)
+    }
+}
+
+/// The number, the word, what is wrong and what would be right.
 impl Display for Refusal {
     fn fmt(&self, f: &mut Formatter<'_>) -> fmt::Result {
-        let Self { number, row } = self;
-        let kind = self.kind();
-        write!(f, "refusal {number}, {kind}: ")?;
-        match kind {
-            RefusalKind::Profile => write!(f, "give a profile of 13 bytes, the first 0 and none above 31"),
-            RefusalKind::Ragged => write!(f, "give a table of 32 bytes for each row"),
-            RefusalKind::Crowded => write!(f, "give a table of at most 1,024 rows"),
-            RefusalKind::BadRow => write!(f, "correct row {row}, which has a field outside the layout"),
-            RefusalKind::Misplaced => {
-                write!(
-                    f,
-                    "order the rows by x, then y, then z, each position once: row {row} does not follow"
-                )
-            }
-            RefusalKind::BadState => write!(
-                f,
-                "give a device column or state that is this table's: it has a wrong length, or a wrong value in \
-                 row {row}"
-            ),
-            RefusalKind::Column => {
-                write!(f, "lend columns of one byte for each row, and a state of 16 bytes for each row")
-            }
-            RefusalKind::Unsettled => write!(f, "give a higher limit; {} is always enough", Rounds::MOST),
-            RefusalKind::ClockEnd => write!(f, "ask for fewer ticks, or number them from 0 again"),
-            RefusalKind::Unknown => {
-                write!(f, "build this crate and its static library from the same repository")
-            }
-        }
+        write!(f, "refusal {}, {}: {}", self.number, self.kind(), self.fault)
     }
 }
 
 impl Error for Refusal {}
 
-/// What a number that a call answers with stands for.
-pub(crate) fn answer(number: u32) -> Result<Rounds, Refusal> {
-    match number >> 16 {
-        0 => Ok(Rounds(number)),
-        refused => Err(Refusal { number: refused, row: (number & 0xffff) as usize }),
+/// What the number that a call answers with stands for. Where it is a refusal, the checks are made again for the
+/// reason, over buffers that are as they were; the number decides.
+pub(crate) fn answered(number: u32, check: impl FnOnce() -> Result<(), Fault>) -> Result<u32, Refusal> {
+    let (refused, row) = (number >> 16, (number & 0xffff) as usize);
+    if refused == 0 {
+        return Ok(number);
     }
+    let unexplained = Fault::Unexplained { number: refused, row };
+    let found = check().err().filter(|fault| (fault.number(), fault.row()) == (refused, row));
+    Err(Refusal { number: refused, row, fault: found.unwrap_or(unexplained) })
 }

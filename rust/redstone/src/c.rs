@@ -1,137 +1,90 @@
-//! The calls of the static library. A slice goes over as a pointer and a length.
+//! The calls of the static library.
 
-use crate::Columns;
+/// Declares calls of the library, each with a function that lends it slices.
+///
+/// A parameter is one of `read name: T`, a slice that the call reads; `write name: T`, one that it may write; and
+/// `pass name: T`, a number. A slice goes over as a pointer and a length.
+macro_rules! calls {
+    ($(fn $call:ident($($way:ident $name:ident: $type:ty),* $(,)?);)*) => {
+        $(calls!(@each $call [] [] [] $($way $name: $type,)*);)*
 
-/// Declares the calls, and for the test of the C header lists what it declared.
-macro_rules! declare {
-    ($(fn $name:ident($($parameter:ident: $type:ty),* $(,)?) -> u32;)*) => {
-        unsafe extern "C" {
-            $(fn $name($($parameter: $type),*) -> u32;)*
-        }
-
-        /// Each call's name, and the names and types of its parameters.
+        /// Each call with its parameters, for the test of the C header.
         #[cfg(test)]
-        pub const DECLARED: &[(&str, &[(&str, &str)])] =
-            &[$((stringify!($name), &[$((stringify!($parameter), stringify!($type))),*])),*];
+        pub const DECLARED: &[(&str, &[Parameter])] = &[$((
+            stringify!($call),
+            &[$(Parameter {
+                way: stringify!($way),
+                name: stringify!($name),
+                of: stringify!($type),
+            }),*],
+        )),*];
+    };
+    (@each $call:ident [$($safe:tt)*] [$($c:tt)*] [$($lent:tt)*] read $name:ident: $type:ty, $($rest:tt)*) => {
+        calls!(
+            @each $call
+            [$($safe)* $name: &[$type],]
+            [$($c)* _: *const $type, _: usize,]
+            [$($lent)* $name.as_ptr(), $name.len(),]
+            $($rest)*
+        );
+    };
+    (@each $call:ident [$($safe:tt)*] [$($c:tt)*] [$($lent:tt)*] write $name:ident: $type:ty, $($rest:tt)*) => {
+        calls!(
+            @each $call
+            [$($safe)* $name: &mut [$type],]
+            [$($c)* _: *mut $type, _: usize,]
+            [$($lent)* $name.as_mut_ptr(), $name.len(),]
+            $($rest)*
+        );
+    };
+    (@each $call:ident [$($safe:tt)*] [$($c:tt)*] [$($lent:tt)*] pass $name:ident: $type:ty, $($rest:tt)*) => {
+        calls!(
+            @each $call
+            [$($safe)* $name: $type,]
+            [$($c)* _: $type,]
+            [$($lent)* $name,]
+            $($rest)*
+        );
+    };
+    (@each $call:ident [$($safe:tt)*] [$($c:tt)*] [$($lent:tt)*]) => {
+        #[allow(clippy::too_many_arguments)]
+        pub fn $call($($safe)*) -> u32 {
+            unsafe extern "C" {
+                fn $call($($c)*) -> u32;
+            }
+            // SAFETY: each pointer goes with the length of the slice that it is of. The call is proved to stay inside
+            // the lent slices and to write only those that are lent to be written, and it keeps none of them.
+            unsafe { $call($($lent)*) }
+        }
     };
 }
 
-declare! {
+/// A parameter of a call: `read`, `write` or `pass`, its name and its type.
+#[cfg(test)]
+pub struct Parameter {
+    pub way: &'static str,
+    pub name: &'static str,
+    pub of: &'static str,
+}
+
+calls! {
     fn redstone_fresh(
-        profile: *const u8, profile_length: usize,
-        table: *const u8, table_length: usize,
-        state: *mut u8, state_length: usize,
-        signal: *mut u8, signal_length: usize,
-        weak: *mut u8, weak_length: usize,
-        strong: *mut u8, strong_length: usize,
-    ) -> u32;
+        read profile: u8, read table: u8, write state: u8,
+        write signal: u8, write weak: u8, write strong: u8,
+    );
     fn redstone_settle(
-        profile: *const u8, profile_length: usize,
-        table: *const u8, table_length: usize,
-        devices: *const u8, devices_length: usize,
-        limit: u32,
-        signal: *mut u8, signal_length: usize,
-        weak: *mut u8, weak_length: usize,
-        strong: *mut u8, strong_length: usize,
-    ) -> u32;
+        read profile: u8, read table: u8, read devices: u8, pass limit: u32,
+        write signal: u8, write weak: u8, write strong: u8,
+    );
     fn redstone_tick(
-        profile: *const u8, profile_length: usize,
-        table: *const u8, table_length: usize,
-        state: *mut u8, state_length: usize,
-        tick: u32, ticks: u32,
-        signal: *mut u8, signal_length: usize,
-        weak: *mut u8, weak_length: usize,
-        strong: *mut u8, strong_length: usize,
-    ) -> u32;
+        read profile: u8, read table: u8, write state: u8, pass tick: u32, pass ticks: u32,
+        write signal: u8, write weak: u8, write strong: u8,
+    );
     fn redstone_switch(
-        profile: *const u8, profile_length: usize,
-        table: *mut u8, table_length: usize,
-        state: *const u8, state_length: usize,
-        x: i32, y: i32, z: i32, powered: u32,
-        signal: *mut u8, signal_length: usize,
-        weak: *mut u8, weak_length: usize,
-        strong: *mut u8, strong_length: usize,
-    ) -> u32;
-}
-
-#[rustfmt::skip]
-pub fn fresh(profile: &[u8], table: &[u8], state: &mut [u8], columns: Columns<'_>) -> u32 {
-    let Columns { signal, weak, strong } = columns;
-    // SAFETY: each pointer goes with the length of the slice that it is of. The call is proved to stay inside the
-    // lent slices and to write only those that are lent to be written, and it keeps none of them.
-    unsafe {
-        redstone_fresh(
-            profile.as_ptr(), profile.len(),
-            table.as_ptr(), table.len(),
-            state.as_mut_ptr(), state.len(),
-            signal.as_mut_ptr(), signal.len(),
-            weak.as_mut_ptr(), weak.len(),
-            strong.as_mut_ptr(), strong.len(),
-        )
-    }
-}
-
-#[rustfmt::skip]
-pub fn settle(profile: &[u8], table: &[u8], devices: &[u8], limit: u32, columns: Columns<'_>) -> u32 {
-    let Columns { signal, weak, strong } = columns;
-    // SAFETY: as for `fresh`.
-    unsafe {
-        redstone_settle(
-            profile.as_ptr(), profile.len(),
-            table.as_ptr(), table.len(),
-            devices.as_ptr(), devices.len(),
-            limit,
-            signal.as_mut_ptr(), signal.len(),
-            weak.as_mut_ptr(), weak.len(),
-            strong.as_mut_ptr(), strong.len(),
-        )
-    }
-}
-
-#[rustfmt::skip]
-pub fn tick(
-    profile: &[u8],
-    table: &[u8],
-    state: &mut [u8],
-    tick: u32,
-    ticks: u32,
-    columns: Columns<'_>,
-) -> u32 {
-    let Columns { signal, weak, strong } = columns;
-    // SAFETY: as for `fresh`.
-    unsafe {
-        redstone_tick(
-            profile.as_ptr(), profile.len(),
-            table.as_ptr(), table.len(),
-            state.as_mut_ptr(), state.len(),
-            tick, ticks,
-            signal.as_mut_ptr(), signal.len(),
-            weak.as_mut_ptr(), weak.len(),
-            strong.as_mut_ptr(), strong.len(),
-        )
-    }
-}
-
-#[rustfmt::skip]
-pub fn switch(
-    profile: &[u8],
-    table: &mut [u8],
-    state: &[u8],
-    [x, y, z]: [i32; 3],
-    powered: bool,
-    columns: Columns<'_>,
-) -> u32 {
-    let Columns { signal, weak, strong } = columns;
-    // SAFETY: as for `fresh`.
-    unsafe {
-        redstone_switch(
-            profile.as_ptr(), profile.len(),
-            table.as_mut_ptr(), table.len(),
-            state.as_ptr(), state.len(),
-            x, y, z, powered.into(),
-            signal.as_mut_ptr(), signal.len(),
-            weak.as_mut_ptr(), weak.len(),
-            strong.as_mut_ptr(), strong.len(),
-        )
-    }
+        read profile: u8, write table: u8, read state: u8,
+        pass x: i32, pass y: i32, pass z: i32, pass powered: u32,
+        write signal: u8, write weak: u8, write strong: u8,
+    );
+    fn redstone_redraw(read profile: u8, write table: u8);
+    fn redstone_supports(read profile: u8, read table: u8, write rows: u16);
 }

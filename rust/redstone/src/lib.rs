@@ -1,50 +1,89 @@
 //! Settles redstone and runs it tick by tick, through the proved calls of the static library `redstone`.
 //!
-//! A table of at most 1,024 blocks goes in, and out come three columns with a byte for each row: the signal, and the
-//! weak and the strong power. The editor's order of calls is [`fresh`] once for a table, then [`tick`] and [`switch`]
-//! as the player waits and throws levers; [`settle`] asks what a table settles to with other devices.
-//!
-//! A redstone block, and beside it two dust on solid blocks:
+//! A table of at most 1,024 blocks goes in, and out come three figures for each: its signal, and its weak and its
+//! strong power. [`Circuit`] keeps a table with its state and its figures. A redstone block, and beside it two dust on
+//! solid blocks:
 //!
 //! ```
-//! use redstone::{BENCH_PROFILE, Columns, Kind, ROW_BYTES, Row, STATE_BYTES};
+//! use redstone::{BENCH_PROFILE, Circuit, Kind, Row};
 //!
-//! let table = redstone::table([
+//! let circuit = Circuit::new(&BENCH_PROFILE, [
 //!     Row::new(Kind::RedstoneBlock, [0, 1, 0]),
 //!     Row::new(Kind::Solid, [1, 0, 0]),
 //!     Row::new(Kind::RedstoneWire, [1, 1, 0]),
 //!     Row::new(Kind::Solid, [2, 0, 0]),
 //!     Row::new(Kind::RedstoneWire, [2, 1, 0]),
-//! ]);
+//! ])?;
+//!
+//! assert_eq!(circuit.rounds().get(), 4);
+//! assert_eq!(circuit.at([2, 1, 0]).map(|block| block.figures.signal), Some(14));
+//! assert_eq!(circuit.settled().signal(), [15, 0, 15, 0, 14]);
+//! assert_eq!(circuit.settled().weak(), [0, 15, 0, 14, 0]);
+//! # Ok::<(), redstone::Refusal>(())
+//! ```
+//!
+//! # Rows
+//!
+//! A [`Row`] is a block and its position, in fields; [`table()`] packs rows, [`rows()`] reads them back, and [`find`]
+//! looks a position up. y is up. What a newcomer has to know:
+//!
+//! - A repeater or comparator faces its output; its input is at the opposite side. Without a horizontal facing it has
+//!   neither.
+//! - A lever, button or plate powers the block at its support offset, `[0, -1, 0]` for the one below. Without an offset
+//!   it powers no block, and still gives its level to dust beside it.
+//! - A torch goes out while the block at its support offset has power. One whose `powered` is missing starts lit.
+//! - The support offset is what the [support list](supports) looks at, too: settling itself asks for no floor.
+//!
+//! # Figures
+//!
+//! - The *signal* is the level that a source or device gives, and a dust's own; 0 for all other blocks.
+//! - *Strong power* is what levers, buttons, plates, repeaters, comparators and redstone blocks give to a block.
+//! - *Weak power* is what dust, and strongly powered neighbours, give to a block.
+//!
+//! Lamps, torches, repeaters and comparators answer to both powers; strong power alone drives dust. What a table
+//! settles to is an instant: the devices stand as the state has them, and a tick, a tenth of a second, lets them answer.
+//! So a torch on a powered block is lit in the fresh state and out after one tick.
+//!
+//! # Calls
+//!
+//! [`Circuit`] is made of six calls over plain slices, which an editor with buffers of its own can use as they are:
+//! [`fresh`] once for a table, then [`tick`] and [`switch`] as the player waits and throws levers; [`settle`] asks what
+//! a table settles to with other devices; [`redraw`] draws the arms of dust, and [`supports`] lists what nothing holds
+//! up. The repository's README has their formats byte by byte:
+//!
+//! - The profile has [`PROFILE_BYTES`], one for each kind of block from Air on, such as [`BENCH_PROFILE`].
+//! - The table has [`ROW_BYTES`] for each row, ordered by x, then y, then z, each position once. Rows are numbered in
+//!   that order, from 0.
+//! - A device column has a byte for each row: a repeater's or torch's is 1 where it is on, a comparator's is its
+//!   level, any other is 0.
+//! - A state has [`STATE_BYTES`] for each row, which [`Device::read`] reads. [`fresh`] writes it, and [`tick`] moves it
+//!   on.
+//!
+//! ```
+//! use redstone::{BENCH_PROFILE, Columns, Kind, ROW_BYTES, Row, STATE_BYTES};
+//!
+//! let table = redstone::table([Row::new(Kind::RedstoneBlock, [0, 0, 0]), Row::new(Kind::RedstoneLamp, [1, 0, 0])]);
 //! let rows = table.len() / ROW_BYTES;
 //! let mut state = vec![0; STATE_BYTES * rows];
 //! let [mut signal, mut weak, mut strong] = [vec![0; rows], vec![0; rows], vec![0; rows]];
 //! let columns = Columns { signal: &mut signal, weak: &mut weak, strong: &mut strong };
 //!
-//! let rounds = redstone::fresh(&BENCH_PROFILE, &table, &mut state, columns)?;
+//! redstone::fresh(&BENCH_PROFILE, &table, &mut state, columns)?;
 //!
-//! assert_eq!(rounds.get(), 4);
-//! assert_eq!(signal, [15, 0, 15, 0, 14]);
-//! assert_eq!(weak, [0, 15, 0, 14, 0]);
-//! assert_eq!(strong, [0; 5]);
+//! assert_eq!((signal, strong), (vec![15, 0], vec![0, 15]));
 //! # Ok::<(), redstone::Refusal>(())
 //! ```
-//!
-//! # Formats
-//!
-//! The repository's README has them byte by byte.
-//!
-//! - The profile has 13 bytes, one for each kind of block from Air on, such as [`BENCH_PROFILE`].
-//! - The table has [`ROW_BYTES`] for each row, ordered by x, then y, then z, each position once. [`table()`] packs
-//!   and orders [`Row`]s; rows are numbered in that order, from 0.
-//! - A device column has a byte for each row: a repeater's or torch's is 1 where it is on, a comparator's is its
-//!   level, any other is 0.
-//! - A state has [`STATE_BYTES`] for each row. [`fresh`] writes it, and [`tick`] moves it on.
 //!
 //! # Refusals
 //!
 //! A call reads any bytes of any length. What it cannot settle it refuses, and then it has written to none of the
-//! buffers lent to it. [`Refusal`] has the number, the row at fault and a message that says what to do.
+//! buffers lent to it. [`Refusal`] has the number and the row that the call answered, and a [`Fault`] that says what
+//! exactly is wrong and what would be right.
+//!
+//! # Threads and stack
+//!
+//! There are no globals: any thread may call at any time. A call allocates nothing and uses 45 KB of stack; a thread
+//! with 48 KiB free is enough for it.
 
 #![deny(unsafe_code, unsafe_op_in_unsafe_fn)]
 #![warn(missing_docs)]
@@ -52,37 +91,73 @@
 mod answer;
 #[allow(unsafe_code)]
 mod c;
+mod checks;
+mod circuit;
+mod code;
+mod device;
+mod fault;
+mod field;
 mod row;
+mod table;
 #[cfg(test)]
 mod tests;
 
-use answer::answer;
+use answer::answered;
 pub use answer::{Refusal, RefusalKind, Rounds};
-pub use row::{Arm, Facing, Kind, Row, Shape, table};
+pub use circuit::{Block, Circuit, Figures, Settled};
+pub use code::{Arm, Facing, Kind, Shape, UnknownCode, UnknownName};
+pub use device::Device;
+pub use fault::{Buffer, Fault};
+pub use field::BadField;
+pub use row::{Row, RowError};
+pub use table::{find, rows, table};
+
+/// The program in the README.
+#[cfg(doctest)]
+#[doc = include_str!("../../../README.md")]
+struct Readme;
 
 /// Bytes of a row of the table.
 pub const ROW_BYTES: usize = 32;
 /// Bytes of a row of a state.
 pub const STATE_BYTES: usize = 16;
+/// Bytes of a profile.
+pub const PROFILE_BYTES: usize = 13;
 /// The most rows that a table may have.
 pub const MOST_ROWS: usize = 1024;
+/// The largest coordinate; its negative is the smallest.
+pub const FARTHEST: i32 = 1_000_000;
 
 /// The bench's own profile: solid blocks and lamps conduct, and they, transparent blocks and redstone blocks carry
 /// components.
-pub const BENCH_PROFILE: [u8; 13] = [0, 31, 1, 0, 0, 0, 0, 0, 0, 0, 31, 1, 0];
+pub const BENCH_PROFILE: [u8; PROFILE_BYTES] = [0, 31, 1, 0, 0, 0, 0, 0, 0, 0, 31, 1, 0];
 
 /// The columns that a call fills, each of one byte for each row.
 #[derive(Debug)]
 pub struct Columns<'a> {
-    /// The level that a block gives, and a dust's own.
+    /// The level that a source or device gives, and a dust's own.
     pub signal: &'a mut [u8],
-    /// The power that dust, and strongly powered blocks beside, give to a block.
+    /// The power that dust, and strongly powered neighbours, give to a block.
     pub weak: &'a mut [u8],
-    /// The power that components give to a block.
+    /// The power that levers, buttons, plates, repeaters, comparators and redstone blocks give to a block.
     pub strong: &'a mut [u8],
 }
 
+impl Columns<'_> {
+    fn lengths(&self) -> [(Buffer, usize); 3] {
+        [
+            (Buffer::Signal, self.signal.len()),
+            (Buffer::Weak, self.weak.len()),
+            (Buffer::Strong, self.strong.len()),
+        ]
+    }
+}
+
 /// Writes the state in which a table starts, and settles it.
+///
+/// A repeater starts as its `powered` says, and off where that is missing; a torch likewise, but lit where it is
+/// missing; a comparator with its power level, or where that is missing with 15 or 0 by `powered`; and a lamp lit where
+/// the settled table powers it.
 ///
 /// # Errors
 ///
@@ -93,7 +168,10 @@ pub fn fresh(
     state: &mut [u8],
     columns: Columns<'_>,
 ) -> Result<Rounds, Refusal> {
-    answer(c::fresh(profile, table, state, columns))
+    let lengths = columns.lengths();
+    let Columns { signal, weak, strong } = columns;
+    let answer = c::redstone_fresh(profile, table, state, signal, weak, strong);
+    answered(answer, || checks::fresh(profile, table, state, &lengths)).map(Rounds)
 }
 
 /// Settles a table with these devices, in at most `limit` rounds.
@@ -109,11 +187,14 @@ pub fn settle(
     limit: u32,
     columns: Columns<'_>,
 ) -> Result<Rounds, Refusal> {
-    answer(c::settle(profile, table, devices, limit, columns))
+    let lengths = columns.lengths();
+    let Columns { signal, weak, strong } = columns;
+    let answer = c::redstone_settle(profile, table, devices, limit, signal, weak, strong);
+    answered(answer, || checks::settle(profile, table, devices, limit, &lengths)).map(Rounds)
 }
 
-/// Moves a state on by `ticks` ticks and settles it. It stands at tick number `tick` before and at `tick + ticks`
-/// after. No ticks at all settle it as it is.
+/// Moves a state on by `ticks` ticks, of a tenth of a second each, and settles it. It stands at tick number `tick`
+/// before and at `tick + ticks` after. No ticks at all settle it as it is. Any number is run, however long it takes.
 ///
 /// # Errors
 ///
@@ -126,7 +207,10 @@ pub fn tick(
     ticks: u32,
     columns: Columns<'_>,
 ) -> Result<Rounds, Refusal> {
-    answer(c::tick(profile, table, state, tick, ticks, columns))
+    let lengths = columns.lengths();
+    let Columns { signal, weak, strong } = columns;
+    let answer = c::redstone_tick(profile, table, state, tick, ticks, signal, weak, strong);
+    answered(answer, || checks::tick(profile, table, state, tick, ticks, &lengths)).map(Rounds)
 }
 
 /// Sets whether the block at x, y, z is powered, in the table itself, and settles it. Where no block is, it settles
@@ -139,9 +223,47 @@ pub fn switch(
     profile: &[u8],
     table: &mut [u8],
     state: &[u8],
-    position: [i32; 3],
+    [x, y, z]: [i32; 3],
     powered: bool,
     columns: Columns<'_>,
 ) -> Result<Rounds, Refusal> {
-    answer(c::switch(profile, table, state, position, powered, columns))
+    let lengths = columns.lengths();
+    let Columns { signal, weak, strong } = columns;
+    let answer = c::redstone_switch(profile, table, state, x, y, z, powered.into(), signal, weak, strong);
+    answered(answer, || checks::switch(profile, table, state, &lengths)).map(Rounds)
+}
+
+/// Draws the arms of every dust anew, in the table itself: those that are inferred from what stands around it, and where
+/// that is one alone its opposite, too. An editor does so when a block is set or taken away. Dust whose arms are not
+/// stored settles with the inferred ones, without such an opposite.
+///
+/// # Errors
+///
+/// Refusals 1 to 5.
+pub fn redraw(profile: &[u8], table: &mut [u8]) -> Result<(), Refusal> {
+    let answer = c::redstone_redraw(profile, table);
+    answered(answer, || checks::redraw(profile, table)).map(drop)
+}
+
+/// Writes the numbers of the rows that nothing holds up to the front of `rows`, which has an entry for each row of the
+/// table, and answers how many they are. They are dust, torches, repeaters, comparators and levers whose support offset
+/// is missing, leads to an empty place, or leads to a block that carries no components.
+///
+/// ```
+/// use redstone::{BENCH_PROFILE, Kind, Row};
+///
+/// let dust = Row::new(Kind::RedstoneWire, [0, 1, 0]);
+/// let table = redstone::table([Row::new(Kind::Solid, [0, 0, 0]), dust, dust.with_position([1, 1, 0])]);
+/// let mut rows = [0; 3];
+/// let count = redstone::supports(&BENCH_PROFILE, &table, &mut rows)?;
+/// assert_eq!(rows[..count], [1, 2]);
+/// # Ok::<(), redstone::Refusal>(())
+/// ```
+///
+/// # Errors
+///
+/// Refusals 1 to 5, and 7 on `rows`.
+pub fn supports(profile: &[u8], table: &[u8], rows: &mut [u16]) -> Result<usize, Refusal> {
+    let answer = c::redstone_supports(profile, table, rows);
+    answered(answer, || checks::supports(profile, table, rows)).map(|count| count as usize)
 }

@@ -1,5 +1,6 @@
 //! The document, read: its numbered headings, its tables, and the answers that are written under them.
 
+use std::collections::BTreeSet;
 use std::iter::from_fn;
 
 use super::Fault;
@@ -18,7 +19,7 @@ impl Line<'_> {
         Fault { line: self.number, what: what.into() }
     }
 
-    fn read<T>(self, read: impl Fn(&str) -> Read<T>) -> Result<T, Fault> {
+    pub fn read<T>(self, read: impl Fn(&str) -> Read<T>) -> Result<T, Fault> {
         read(self.text).map_err(|what| self.fault(what))
     }
 }
@@ -70,7 +71,7 @@ pub enum Shown {
     Candidate,
 }
 
-/// The tables of a document, of which it has at least one, and one under each numbered heading.
+/// The tables of a document, of which it has at least one, and one under the heading of each entry.
 pub fn examples(document: &str) -> Result<Vec<Example<'_>>, Fault> {
     let parts = parts(document)?;
     check_headings(&parts)?;
@@ -93,6 +94,8 @@ pub fn examples(document: &str) -> Result<Vec<Example<'_>>, Fault> {
 
 const FENCE: &str = "```";
 const TABLE: &str = "table";
+/// What the heading of an entry begins with.
+pub const ENTRY: &str = "### ";
 
 enum Part<'a> {
     Heading(Line<'a>),
@@ -142,21 +145,27 @@ fn body<'a>(word: Line<'a>, lines: &mut impl Iterator<Item = Line<'a>>) -> Resul
     Err(word.fault("the block has no end"))
 }
 
-/// Headings of the fourth level are numbered from 1 on, and each has a table under it.
+/// Each entry has a number of its own, and a table under it.
 fn check_headings(parts: &[Part]) -> Result<(), Fault> {
-    let mut number = 0;
+    let mut numbers = BTreeSet::new();
     for (at, part) in parts.iter().enumerate() {
         let Part::Heading(line) = part else { continue };
-        let Some(title) = line.text.strip_prefix("#### ") else { continue };
-        number += 1;
-        if !title.starts_with(&format!("{number}. ")) {
-            return Err(line.fault(format!("the heading's number is to be {number}")));
+        let Some(heading) = line.text.strip_prefix(ENTRY) else { continue };
+        let (number, _) = line.read(|_| entry(heading))?;
+        if !numbers.insert(number) {
+            return Err(line.fault(format!("the number {number} stands twice")));
         }
-        if !matches!(parts.get(at + 1), Some(Part::Block(_))) {
+        if !matches!(parts.get(at + 1), Some(Part::Block(block)) if block.word.text == TABLE) {
             return Err(line.fault("no table stands under the heading"));
         }
     }
     Ok(())
+}
+
+/// The number and the title in the heading of an entry.
+pub fn entry(heading: &str) -> Read<(u32, &str)> {
+    let (number, title) = heading.split_once(". ").ok_or_else(|| format!("{heading:?} has no number"))?;
+    Ok((words::number(number)?, title))
 }
 
 /// The rows of a table, in the table's order.

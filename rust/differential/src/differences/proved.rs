@@ -29,7 +29,7 @@ impl Proved {
         let [mut signal, mut weak, mut strong] = [(); 3].map(|()| vec![0; self.case.rows()]);
         let columns = Columns { signal: &mut signal, weak: &mut weak, strong: &mut strong };
         let rounds = call(self, columns).map_err(|refusal| {
-            let ::redstone::Refusal { number, row } = refusal;
+            let ::redstone::Refusal { number, row, .. } = refusal;
             Refusal { number, row }
         })?;
         Ok(Settled { rounds: rounds.get(), state: self.state.clone(), columns: [signal, weak, strong] })

@@ -1,32 +1,14 @@
 //! The calls by hand: what they answer and write, and that each refusal comes through.
 
+use super::{Lent, UNTOUCHED};
 use crate::{
-    Arm, BENCH_PROFILE, Columns, Facing, Kind, MOST_ROWS, ROW_BYTES, Refusal, Rounds, Row, STATE_BYTES,
-    Shape, fresh, settle, switch, table, tick,
+    Arm, BENCH_PROFILE, Kind, MOST_ROWS, ROW_BYTES, Refusal, Rounds, Row, STATE_BYTES, fresh, redraw, rows,
+    settle, supports, switch, table, tick,
 };
 
-const UNTOUCHED: u8 = 0xc3;
-
-/// Columns of one length, and what a call is to answer over them.
-struct Lent {
-    signal: Vec<u8>,
-    weak: Vec<u8>,
-    strong: Vec<u8>,
-}
-
-impl Lent {
-    fn new(rows: usize) -> Self {
-        let [signal, weak, strong] = [(); 3].map(|()| vec![UNTOUCHED; rows]);
-        Self { signal, weak, strong }
-    }
-
-    fn columns(&mut self) -> Columns<'_> {
-        Columns { signal: &mut self.signal, weak: &mut self.weak, strong: &mut self.strong }
-    }
-
-    fn untouched(&self) -> bool {
-        [&self.signal, &self.weak, &self.strong].into_iter().flatten().all(|byte| *byte == UNTOUCHED)
-    }
+/// The number and the row of a refusal.
+fn refused<T>(answer: Result<T, Refusal>) -> Option<(u32, usize)> {
+    answer.err().map(|refusal| (refusal.number, refusal.row))
 }
 
 fn rounds(answer: Result<Rounds, Refusal>) -> u32 {
@@ -35,7 +17,7 @@ fn rounds(answer: Result<Rounds, Refusal>) -> u32 {
 
 /// A lamp with a lever on it.
 fn lamp(powered: bool) -> Vec<u8> {
-    let lever = Row::new(Kind::Lever, [0, 1, 0]).support([0, -1, 0]).powered(powered);
+    let lever = Row::new(Kind::Lever, [0, 1, 0]).with_support([0, -1, 0]).with_powered(powered);
     table([lever, Row::new(Kind::RedstoneLamp, [0, 0, 0])])
 }
 
@@ -48,7 +30,7 @@ fn the_smallest_tables_settle() {
         (settle(&BENCH_PROFILE, table, &devices, limit, lent.columns()), lent.signal)
     };
     assert_eq!(rounds(settled(&[], 128).0), 1);
-    assert_eq!(settled(&[], 0).0, Err(Refusal { number: 8, row: 0 }));
+    assert_eq!(refused(settled(&[], 0).0), Some((8, 0)));
     assert_eq!(rounds(settled(&table([Row::new(Kind::Solid, [0; 3])]), 128).0), 2);
     let (answer, signal) = settled(&table([Row::new(Kind::RedstoneBlock, [0; 3])]), 128);
     assert_eq!((rounds(answer), signal), (1, vec![15]));
@@ -104,52 +86,48 @@ fn each_refusal_has_its_word_and_writes_nothing() {
         (ticked(vec![0; STATE_BYTES], 0, 1), 6, 0, "bad state"),
     ];
     for (answer, number, row, word) in answers {
-        assert_eq!(answer, Err(Refusal { number, row }));
-        assert_eq!(Refusal { number, row }.kind().to_string(), word);
+        let refusal = answer.expect_err(word);
+        assert_eq!((refusal.number, refusal.row), (number, row));
+        assert_eq!(refusal.kind().to_string(), word);
+        assert!(refusal.to_string().starts_with(&format!("refusal {number}, {word}: ")), "{refusal}");
     }
-    let message = Refusal { number: 4, row: 1 }.to_string();
-    assert_eq!(message, "refusal 4, bad row: correct row 1, which has a field outside the layout");
 }
 
 #[test]
 fn fresh_and_switch_refuse_what_they_are_lent() {
     let mut table = lamp(true);
     let (mut state, mut lent) = (vec![UNTOUCHED; 2 * STATE_BYTES + 1], Lent::new(2));
-    let refused = fresh(&BENCH_PROFILE, &table, &mut state, lent.columns());
-    assert_eq!(refused, Err(Refusal { number: 7, row: 0 }));
-    let refused = switch(&BENCH_PROFILE, &mut table, &state, [0, 1, 0], false, lent.columns());
-    assert_eq!(refused, Err(Refusal { number: 6, row: 0 }));
+    let answer = fresh(&BENCH_PROFILE, &table, &mut state, lent.columns());
+    assert_eq!(refused(answer), Some((7, 0)));
+    let answer = switch(&BENCH_PROFILE, &mut table, &state, [0, 1, 0], false, lent.columns());
+    assert_eq!(refused(answer), Some((6, 0)));
     assert!(lent.untouched() && state.iter().all(|byte| *byte == UNTOUCHED) && table == lamp(true));
 }
 
 #[test]
-fn a_row_packs_each_field() {
-    let row = Row::new(Kind::Comparator, [1, -2, 1_000_000])
-        .facing(Facing::West)
-        .powered(true)
-        .power_level(200)
-        .delay(3)
-        .support([1, 0, -1])
-        .arms([Some(Arm::None), Some(Arm::Side), Some(Arm::Up), None])
-        .shape(Shape::Glass)
-        .subtract();
-    let bytes = [
-        [1, 0, 0, 0, 0xfe, 0xff, 0xff, 0xff],
-        [0x40, 0x42, 0x0f, 0, 6, 4, 2, 1],
-        [200, 1, 3, 1, 1, 0, 255, 1],
-        [1, 2, 3, 0, 6, 1, 0, 0],
-    ];
-    assert_eq!(row.bytes(), bytes.as_flattened());
-    assert_eq!(Row::new(Kind::Piston, [0; 3]).bytes()[12..], [[12].as_slice(), &[0; 19]].concat());
-    assert_eq!(Row::new(Kind::Lever, [0; 3]).powered(false).bytes()[14], 1);
+fn a_redraw_stores_every_arm() {
+    let dust = Row::new(Kind::RedstoneWire, [0, 0, 0]);
+    let mut drawn = table([dust, Row::new(Kind::Lever, [1, 0, 0])]);
+    redraw(&BENCH_PROFILE, &mut drawn).expect("an accepted table");
+    let arms = Some([None, Some(Arm::Side), None, Some(Arm::Side)]);
+    assert_eq!(rows(&drawn).expect("an accepted table")[0].arms(), arms);
+
+    let mut bad = table([dust, dust]);
+    let before = bad.clone();
+    assert_eq!(refused(redraw(&BENCH_PROFILE, &mut bad)), Some((5, 1)));
+    assert_eq!(bad, before);
 }
 
 #[test]
-fn a_table_is_ordered_by_x_then_y_then_z() {
-    let at = |position| Row::new(Kind::Solid, position);
-    let rows = [[-1, 5, 5], [0, -1, 9], [0, 0, -7], [0, 0, 300], [0, 1, 0], [256, 0, 0]].map(at);
-    let ordered = rows.map(|row| row.bytes());
-    let mut other = rows;
-    other.reverse();
-    assert_eq!(table(other), ordered.as_flattened());
+fn the_support_list_is_at_the_front() {
+    let lever = Row::new(Kind::Lever, [0, 1, 0]).with_support([0, -1, 0]);
+    let solid = Row::new(Kind::Solid, [0, 0, 0]);
+    let table = table([solid, lever, lever.with_position([0, 5, 0]), lever.with_position([0, 9, 0])]);
+    let mut list = [u16::MAX; 4];
+    assert_eq!(supports(&BENCH_PROFILE, &table, &mut list).expect("an accepted table"), 2);
+    assert_eq!(list, [2, 3, u16::MAX, u16::MAX]);
+
+    let mut longer = [u16::MAX; 5];
+    assert_eq!(refused(supports(&BENCH_PROFILE, &table, &mut longer)), Some((7, 0)));
+    assert_eq!(longer, [u16::MAX; 5]);
 }

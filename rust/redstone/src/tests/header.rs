@@ -1,10 +1,12 @@
-//! The C header declares what this crate calls, and a C program compiles and runs with it.
+//! The C header declares what this crate calls, and has its constants.
 
-use std::io::{ErrorKind, Write};
-use std::path::Path;
-use std::process::{Command, Output};
+use std::fmt::Display;
 
-use crate::c::DECLARED;
+use crate::c::{DECLARED, Parameter};
+use crate::{
+    Arm, BENCH_PROFILE, FARTHEST, Facing, Kind, MOST_ROWS, PROFILE_BYTES, ROW_BYTES, Rounds, STATE_BYTES,
+    Shape,
+};
 
 const HEADER: &str = include_str!("../../include/redstone.h");
 
@@ -13,11 +15,24 @@ fn the_header_declares_the_calls() {
     let in_crate: Vec<_> = DECLARED
         .iter()
         .map(|(name, parameters)| {
-            let parameters = parameters.iter().map(|(name, kind)| ((*name).into(), (*kind).into()));
-            Declaration { name: (*name).into(), parameters: parameters.collect() }
+            let parameters = parameters.iter().flat_map(as_in_c).collect();
+            Declaration { name: (*name).into(), parameters }
         })
         .collect();
     assert_eq!(in_header(), in_crate);
+}
+
+/// A number as it is, and a slice as a pointer and its length.
+fn as_in_c(Parameter { way, name, of }: &Parameter) -> Vec<(String, String)> {
+    let slice = |pointer: &str| {
+        vec![((*name).into(), format!("{pointer} {of}")), (format!("{name}_length"), "usize".into())]
+    };
+    match *way {
+        "read" => slice("*const"),
+        "write" => slice("*mut"),
+        "pass" => vec![((*name).into(), (*of).into())],
+        _ => panic!("no way to hand a parameter over: {way}"),
+    }
 }
 
 #[derive(Debug, Eq, PartialEq)]
@@ -65,6 +80,7 @@ fn rust_type(c_type: &str) -> &'static str {
     match c_type {
         "const uint8_t *" => "*const u8",
         "uint8_t *" => "*mut u8",
+        "uint16_t *" => "*mut u16",
         "size_t" => "usize",
         "uint32_t" => "u32",
         "int32_t" => "i32",
@@ -72,35 +88,50 @@ fn rust_type(c_type: &str) -> &'static str {
     }
 }
 
-/// Test 3 of the book.
-#[test]
-fn a_c_program_settles_a_line() {
-    let package = Path::new(env!("CARGO_MANIFEST_DIR"));
-    let program = Path::new(env!("OUT_DIR")).join("line");
-    let mut compiler = Command::new("cc");
-    compiler
-        .args(["-std=c11", "-Wall", "-Wextra", "-Wpedantic", "-Werror", "-I"])
-        .arg(package.join("include"));
-    compiler.arg(package.join("src/tests/line.c")).arg(env!("REDSTONE_ARCHIVE")).arg("-o").arg(&program);
-    match compiler.output() {
-        Err(error) if error.kind() == ErrorKind::NotFound => {
-            let text =
-                "there is no C compiler `cc` on the PATH, so no C program was compiled with the header.";
-            writeln!(std::io::stdout(), "\nredstone.h: {text}").expect("standard output can be written");
-        }
-        compiled => {
-            written(compiled);
-            let lines = "blocks=5\nrounds=4\nrow=0,1,0,15,0,0\nrow=1,0,0,0,15,0\nrow=1,1,0,15,0,0\n\
-                         row=2,0,0,0,14,0\nrow=2,1,0,14,0,0\n";
-            assert_eq!(written(Command::new(program).output()), lines);
-        }
-    }
+/// Each constant of the header as its name and its value.
+fn defined() -> Vec<(&'static str, &'static str)> {
+    let after_name = |line: &'static str| line.strip_prefix("#define ")?.split_once(' ');
+    HEADER.lines().filter_map(after_name).filter(|(name, _)| !name.contains('(')).collect()
 }
 
-/// What a command wrote that ended well.
-fn written(output: std::io::Result<Output>) -> String {
-    let output = output.expect("the command can be run");
-    let errors = String::from_utf8_lossy(&output.stderr);
-    assert!(output.status.success(), "{}\n{errors}", output.status);
-    String::from_utf8_lossy(&output.stdout).into_owned()
+#[test]
+fn the_header_has_the_constants() {
+    let sizes = [
+        ("PROFILE_BYTES", PROFILE_BYTES),
+        ("ROW_BYTES", ROW_BYTES),
+        ("STATE_BYTES", STATE_BYTES),
+        ("MOST_ROWS", MOST_ROWS),
+        ("MOST_ROUNDS", Rounds::MOST as usize),
+        ("FARTHEST", FARTHEST as usize),
+    ];
+    let sizes = sizes.map(|(name, size)| (format!("REDSTONE_{name}"), size.to_string()));
+    let profile = BENCH_PROFILE.map(|byte| byte.to_string()).join(", ");
+    let profile = ("REDSTONE_BENCH_PROFILE".to_owned(), format!("{{{profile}}}"));
+    let constants = sizes
+        .into_iter()
+        .chain(codes("KIND", Kind::ALL))
+        .chain(codes("FACING", Facing::ALL))
+        .chain(codes("ARM", Arm::ALL))
+        .chain(codes("SHAPE", Shape::ALL))
+        .chain([profile]);
+    let defined = defined().into_iter().map(|(name, value)| (name.to_owned(), value.to_owned()));
+    assert_eq!(defined.collect::<Vec<_>>(), constants.collect::<Vec<_>>());
+}
+
+/// A constant for each value, named as its name is in capitals.
+fn codes<T>(of: &'static str, all: &[T]) -> impl Iterator<Item = (String, String)>
+where
+    T: Copy + Display,
+    u8: From<T>,
+{
+    all.iter().map(move |&value| {
+        let mut name = format!("REDSTONE_{of}");
+        for letter in value.to_string().chars() {
+            if letter.is_uppercase() {
+                name.push('_');
+            }
+            name.push(letter.to_ascii_uppercase());
+        }
+        (name, u8::from(value).to_string())
+    })
 }

@@ -1,0 +1,154 @@
+//! The tests of the refusal table, in its order, for the reason that a refusal gives. Whether a call is refused, and
+//! with which number, is the proved call's to say.
+
+use crate::device::{Device, read_device_byte};
+use crate::{BadField, Buffer, Fault, MOST_ROWS, PROFILE_BYTES, ROW_BYTES, Row, STATE_BYTES, rows};
+
+/// The largest byte of a profile but for Air's, which is 0.
+const MOST_PROPERTIES: u8 = 31;
+
+/// The lengths of buffers that are lent to be written.
+pub(crate) type Lengths<'a> = &'a [(Buffer, usize)];
+
+/// What [`fresh`](crate::fresh) refuses.
+pub(crate) fn fresh(profile: &[u8], table: &[u8], state: &[u8], columns: Lengths) -> Result<(), Fault> {
+    let rows = input(profile, table)?;
+    check_lengths(&rows, &[(Buffer::State, state.len())])?;
+    check_lengths(&rows, columns)
+}
+
+/// What [`settle`](crate::settle) refuses: where nothing else is wrong it is the limit.
+pub(crate) fn settle(
+    profile: &[u8],
+    table: &[u8],
+    devices: &[u8],
+    limit: u32,
+    columns: Lengths,
+) -> Result<(), Fault> {
+    let rows = input(profile, table)?;
+    check_devices(&rows, devices)?;
+    check_lengths(&rows, columns)?;
+    Err(Fault::Unsettled { limit })
+}
+
+/// What [`tick`](crate::tick) refuses.
+pub(crate) fn tick(
+    profile: &[u8],
+    table: &[u8],
+    state: &[u8],
+    tick: u32,
+    ticks: u32,
+    columns: Lengths,
+) -> Result<(), Fault> {
+    switch(profile, table, state, columns)?;
+    check_clock(tick, ticks)
+}
+
+/// What [`switch`](crate::switch) refuses.
+pub(crate) fn switch(profile: &[u8], table: &[u8], state: &[u8], columns: Lengths) -> Result<(), Fault> {
+    let rows = input(profile, table)?;
+    check_state(&rows, state)?;
+    check_lengths(&rows, columns)
+}
+
+/// What [`redraw`](crate::redraw) refuses.
+pub(crate) fn redraw(profile: &[u8], table: &[u8]) -> Result<(), Fault> {
+    input(profile, table).map(drop)
+}
+
+/// What [`supports`](crate::supports) refuses.
+pub(crate) fn supports(profile: &[u8], table: &[u8], list: &[u16]) -> Result<(), Fault> {
+    check_lengths(&input(profile, table)?, &[(Buffer::Rows, list.len())])
+}
+
+/// 1 to 5. The rows are those of the accepted table.
+fn input(profile: &[u8], table: &[u8]) -> Result<Vec<Row>, Fault> {
+    check_profile(profile)?;
+    check_number(table)?;
+    let rows = rows(table)?;
+    check_order(&rows)?;
+    Ok(rows)
+}
+
+fn check_profile(profile: &[u8]) -> Result<(), Fault> {
+    if profile.len() != PROFILE_BYTES {
+        return Err(Fault::ProfileLength { length: profile.len() });
+    }
+    for (kind, &value) in (0..).zip(profile) {
+        let most = if kind == 0 { 0 } else { MOST_PROPERTIES };
+        if value > most {
+            return Err(Fault::ProfileByte { kind, value, most });
+        }
+    }
+    Ok(())
+}
+
+/// 3, which falls on a table of whole rows alone.
+fn check_number(table: &[u8]) -> Result<(), Fault> {
+    match table.as_chunks::<ROW_BYTES>() {
+        (rows, []) if rows.len() > MOST_ROWS => Err(Fault::Crowded { rows: rows.len() }),
+        _ => Ok(()),
+    }
+}
+
+fn check_order(rows: &[Row]) -> Result<(), Fault> {
+    for (row, pair) in (1..).zip(rows.windows(2)) {
+        let (before, position) = (pair[0].position(), pair[1].position());
+        if position <= before {
+            return Err(Fault::Misplaced { row, position, before });
+        }
+    }
+    Ok(())
+}
+
+/// 6, of a device column.
+fn check_devices(rows: &[Row], devices: &[u8]) -> Result<(), Fault> {
+    check_values(Buffer::Devices, rows, devices, |row, &[byte]| read_device_byte(row.kind(), byte).map(drop))
+}
+
+/// 6, of a state.
+fn check_state(rows: &[Row], state: &[u8]) -> Result<(), Fault> {
+    check_values(Buffer::State, rows, state, |row, bytes: &[u8; STATE_BYTES]| {
+        Device::read(row, bytes).map(drop)
+    })
+}
+
+/// The length, then the bytes of each row.
+fn check_values<const WIDTH: usize>(
+    buffer: Buffer,
+    rows: &[Row],
+    values: &[u8],
+    check: impl Fn(&Row, &[u8; WIDTH]) -> Result<(), BadField>,
+) -> Result<(), Fault> {
+    let (length, expected) = (values.len(), WIDTH * rows.len());
+    if length != expected {
+        return Err(Fault::StateLength { buffer, length, expected });
+    }
+    for (number, (row, bytes)) in rows.iter().zip(values.as_chunks().0).enumerate() {
+        let (position, kind) = (row.position(), row.kind());
+        check(row, bytes).map_err(|field| Fault::BadState { buffer, row: number, position, kind, field })?;
+    }
+    Ok(())
+}
+
+/// 7: each buffer with its length and the entries that it has for a row.
+fn check_lengths(rows: &[Row], buffers: Lengths) -> Result<(), Fault> {
+    for &(buffer, length) in buffers {
+        let expected = match buffer {
+            Buffer::State => STATE_BYTES * rows.len(),
+            _ => rows.len(),
+        };
+        if length != expected {
+            return Err(Fault::Column { buffer, length, expected });
+        }
+    }
+    Ok(())
+}
+
+/// 9.
+fn check_clock(tick: u32, ticks: u32) -> Result<(), Fault> {
+    match tick.checked_add(ticks) {
+        Some(_) => Ok(()),
+        None => Err(Fault::ClockEnd { tick, ticks }),
+    }
+}

@@ -1,0 +1,230 @@
+//! What exactly is wrong with an input.
+
+use std::error::Error;
+use std::fmt::{self, Display, Formatter};
+
+use crate::{BadField, Kind, MOST_ROWS, PROFILE_BYTES, ROW_BYTES, Rounds};
+
+/// What exactly is wrong with an input. Its message says what would be right.
+#[derive(Clone, Copy, Debug, Eq, Hash, PartialEq)]
+#[non_exhaustive]
+pub enum Fault {
+    /// 1: the profile has a wrong length.
+    ProfileLength {
+        /// Its bytes.
+        length: usize,
+    },
+    /// 1: a byte of the profile is too large.
+    ProfileByte {
+        /// The code of the kind that it is of, which is its place in the profile.
+        kind: u8,
+        /// The byte.
+        value: u8,
+        /// The largest that it may be.
+        most: u8,
+    },
+    /// 2: the table is not of whole rows.
+    Ragged {
+        /// The bytes of the table.
+        length: usize,
+    },
+    /// 3: the table has too many rows.
+    Crowded {
+        /// How many it has.
+        rows: usize,
+    },
+    /// 4: a row has a field outside the layout.
+    BadRow {
+        /// The row's number.
+        row: usize,
+        /// The position that its bytes hold.
+        position: [i32; 3],
+        /// The first such field.
+        field: BadField,
+    },
+    /// 5: a row's position is not after that of the row before.
+    Misplaced {
+        /// The row's number.
+        row: usize,
+        /// Its position.
+        position: [i32; 3],
+        /// The position of the row before.
+        before: [i32; 3],
+    },
+    /// 6: the device column or the state has a wrong length.
+    StateLength {
+        /// Which of them.
+        buffer: Buffer,
+        /// Its bytes.
+        length: usize,
+        /// The bytes that it is to have.
+        expected: usize,
+    },
+    /// 6: the device column or the state has a value that this row cannot have.
+    BadState {
+        /// Which of them.
+        buffer: Buffer,
+        /// The row's number.
+        row: usize,
+        /// The row's position.
+        position: [i32; 3],
+        /// The row's kind.
+        kind: Kind,
+        /// The first field at fault, counted from the row's first byte.
+        field: BadField,
+    },
+    /// 7: a buffer that is lent to be written has a wrong length.
+    Column {
+        /// Which.
+        buffer: Buffer,
+        /// Its entries.
+        length: usize,
+        /// The entries that it is to have.
+        expected: usize,
+    },
+    /// 8: the limit is below the rounds needed.
+    Unsettled {
+        /// The limit.
+        limit: u32,
+    },
+    /// 9: the tick's number would pass the last.
+    ClockEnd {
+        /// The number of the tick that the state stands at.
+        tick: u32,
+        /// The ticks asked for.
+        ticks: u32,
+    },
+    /// The library refused what this crate finds no fault with.
+    Unexplained {
+        /// The number of the refusal.
+        number: u32,
+        /// Its row.
+        row: usize,
+    },
+}
+
+/// A buffer that is lent to a call with entries for each row.
+#[derive(Clone, Copy, Debug, Eq, Hash, PartialEq)]
+#[non_exhaustive]
+pub enum Buffer {
+    /// The device column.
+    Devices,
+    /// The state.
+    State,
+    /// The column of signals.
+    Signal,
+    /// The column of weak power.
+    Weak,
+    /// The column of strong power.
+    Strong,
+    /// The column for the numbers of rows.
+    Rows,
+}
+
+impl Fault {
+    /// The number of the refusal that this is the reason of.
+    #[must_use]
+    pub fn number(&self) -> u32 {
+        match *self {
+            Self::ProfileLength { .. } | Self::ProfileByte { .. } => 1,
+            Self::Ragged { .. } => 2,
+            Self::Crowded { .. } => 3,
+            Self::BadRow { .. } => 4,
+            Self::Misplaced { .. } => 5,
+            Self::StateLength { .. } | Self::BadState { .. } => 6,
+            Self::Column { .. } => 7,
+            Self::Unsettled { .. } => 8,
+            Self::ClockEnd { .. } => 9,
+            Self::Unexplained { number, .. } => number,
+        }
+    }
+
+    /// The row at fault; 0 where no row is.
+    #[must_use]
+    pub fn row(&self) -> usize {
+        match *self {
+            Self::BadRow { row, .. }
+            | Self::Misplaced { row, .. }
+            | Self::BadState { row, .. }
+            | Self::Unexplained { row, .. } => row,
+            _ => 0,
+        }
+    }
+}
+
+impl Display for Fault {
+    fn fmt(&self, f: &mut Formatter<'_>) -> fmt::Result {
+        match *self {
+            Self::ProfileLength { length } => {
+                write!(f, "the profile has length {length}; it must be {PROFILE_BYTES}")
+            }
+            Self::ProfileByte { kind, value, most } => {
+                let of = Kind::try_from(kind).map_or("Air", Kind::name);
+                write!(f, "byte {kind} of the profile, {of}'s, is {value}; it may be at most {most}")
+            }
+            Self::Ragged { length } => {
+                write!(f, "the table has length {length}; it must be {ROW_BYTES} for each row")
+            }
+            Self::Crowded { rows } => {
+                write!(f, "the table has {rows} rows; it may have at most {MOST_ROWS}")
+            }
+            Self::BadRow { row, position, field } => {
+                write!(f, "row {row} at {}: {field}", At(position))
+            }
+            Self::Misplaced { row, position, before } if position == before => {
+                let (at, previous) = (At(position), row.saturating_sub(1));
+                write!(f, "rows {previous} and {row} are both at {at}; each position may be there once")
+            }
+            Self::Misplaced { row, position, before } => {
+                let (at, previous, before) = (At(position), row.saturating_sub(1), At(before));
+                write!(f, "row {row} at {at} comes after row {previous} at {before}; ")?;
+                write!(f, "the order is by x, then y, then z")
+            }
+            Self::StateLength { buffer, length, expected } | Self::Column { buffer, length, expected } => {
+                write!(f, "the {buffer} has length {length}; for this table it must be {expected}")
+            }
+            Self::BadState { buffer, row, position, kind, field } => {
+                write!(f, "the {buffer}'s row {row}, of a {kind} at {}: {field}", At(position))
+            }
+            Self::Unsettled { limit } => {
+                let most = Rounds::MOST;
+                write!(f, "the table does not settle within a limit of {limit}; {most} is always enough")
+            }
+            Self::ClockEnd { tick, ticks } => {
+                let (last, left) = (u32::MAX, u32::MAX - tick);
+                write!(f, "tick {tick} plus {ticks} is past {last}, the last; {left} more can be asked for")
+            }
+            Self::Unexplained { .. } => {
+                write!(
+                    f,
+                    "no fault is found; build this crate and its static library from the same repository"
+                )
+            }
+        }
+    }
+}
+
+impl Error for Fault {}
+
+impl Display for Buffer {
+    fn fmt(&self, f: &mut Formatter<'_>) -> fmt::Result {
+        f.pad(match self {
+            Self::Devices => "device column",
+            Self::State => "state",
+            Self::Signal => "signal column",
+            Self::Weak => "weak column",
+            Self::Strong => "strong column",
+            Self::Rows => "column of rows",
+        })
+    }
+}
+
+/// A position in a message.
+struct At([i32; 3]);
+
+impl Display for At {
+    fn fmt(&self, f: &mut Formatter<'_>) -> fmt::Result {
+        let [x, y, z] = self.0;
+        write!(f, "{x},{y},{z}")
+    }
+}

@@ -1,0 +1,51 @@
+//! A whole table, in rows and in bytes.
+
+use crate::row::position_of;
+use crate::{Fault, ROW_BYTES, Row};
+
+/// Packs rows into a table, in the table's order.
+///
+/// Two rows at one position stay two, which every call refuses.
+#[must_use]
+pub fn table(rows: impl IntoIterator<Item = Row>) -> Vec<u8> {
+    let mut rows: Vec<_> = rows.into_iter().collect();
+    rows.sort_by_key(Row::position);
+    rows.iter().flat_map(Row::bytes).collect()
+}
+
+/// Reads the rows of a packed table, as they stand in it.
+///
+/// Their number and their order are for the calls to judge: what this reads and [`table()`] packs again has the table's
+/// order.
+///
+/// ```
+/// use redstone::{Kind, Row, find, rows, table};
+///
+/// let packed = table([Row::new(Kind::RedstoneWire, [0, 1, 0]), Row::new(Kind::Solid, [0, 0, 0])]);
+/// let read = rows(&packed)?;
+/// assert_eq!(read[1].kind(), Kind::RedstoneWire);
+/// assert_eq!(find(&packed, [0, 1, 0]), Some(1));
+/// # Ok::<(), redstone::Fault>(())
+/// ```
+///
+/// # Errors
+///
+/// [`Fault::Ragged`] and [`Fault::BadRow`].
+pub fn rows(table: &[u8]) -> Result<Vec<Row>, Fault> {
+    let (packed, rest) = table.as_chunks();
+    if !rest.is_empty() {
+        return Err(Fault::Ragged { length: table.len() });
+    }
+    let read = |(row, bytes): (usize, &[u8; ROW_BYTES])| {
+        let position = position_of(bytes);
+        Row::try_from(bytes).map_err(|field| Fault::BadRow { row, position, field })
+    };
+    packed.iter().enumerate().map(read).collect()
+}
+
+/// The number of the row at x, y, z, in a packed table that a call accepts.
+#[must_use]
+pub fn find(table: &[u8], position: [i32; 3]) -> Option<usize> {
+    let (packed, _) = table.as_chunks::<ROW_BYTES>();
+    packed.binary_search_by_key(&position, |bytes| position_of(bytes)).ok()
+}

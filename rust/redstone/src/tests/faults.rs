@@ -1,0 +1,308 @@
+//! The reason that a refusal gives, against the number that the proved call answers, on every byte set to every value.
+
+use super::Lent;
+use crate::{
+    BENCH_PROFILE, Buffer, Circuit, Device, Facing, Fault, Kind, MOST_ROWS, PROFILE_BYTES, ROW_BYTES,
+    Refusal, Row, STATE_BYTES, checks, find, fresh, redraw, settle, supports, switch, table, tick,
+};
+
+/// What all calls take.
+#[derive(Clone)]
+struct Input {
+    profile: Vec<u8>,
+    table: Vec<u8>,
+    devices: Vec<u8>,
+    state: Vec<u8>,
+    /// The length of the state that is lent to be written.
+    fresh: usize,
+    /// The lengths of signal, weak and strong.
+    columns: [usize; 3],
+    /// The length of the column for row numbers.
+    list: usize,
+    limit: u32,
+    tick: u32,
+}
+
+impl Input {
+    fn new(rows: impl IntoIterator<Item = Row>) -> Self {
+        let circuit = Circuit::new(&BENCH_PROFILE, rows).expect("accepted");
+        let rows = circuit.len();
+        Self {
+            profile: BENCH_PROFILE.to_vec(),
+            table: circuit.table().to_vec(),
+            devices: circuit.devices(),
+            state: circuit.state().to_vec(),
+            fresh: STATE_BYTES * rows,
+            columns: [rows; 3],
+            list: rows,
+            limit: 17,
+            tick: 0,
+        }
+    }
+
+    /// Each kind of device, with all that its state may hold, and dust with stored arms.
+    fn devices() -> Self {
+        let repeater =
+            |z, delay| Row::new(Kind::Repeater, [-1, 0, z]).with_facing(Facing::East).with_delay(delay);
+        let torch = |z| Row::new(Kind::RedstoneTorch, [-2, 0, z]).with_support([0, -1, 0]);
+        let mut input = Self::new([
+            repeater(0, 2),
+            repeater(1, 9),
+            torch(0),
+            torch(1),
+            Row::new(Kind::Comparator, [-3, 0, 0]).with_power_level(200).with_subtract(true),
+            Row::new(Kind::RedstoneLamp, [-4, 0, 0]),
+            Row::new(Kind::RedstoneWire, [-5, 0, 0]).with_arms([None; 4]),
+        ]);
+        for (at, device) in [
+            ([-1, 0, 0], Device::Repeater { powered: true, queue: 0b01 }),
+            ([-1, 0, 1], Device::Repeater { powered: false, queue: 0b1010 }),
+            ([-2, 0, 0], Device::Torch { lit: true, toggles: 0b0111_1111, candidate: false }),
+            ([-2, 0, 1], Device::Torch { lit: false, toggles: 0x5555_5555, candidate: true }),
+            ([-4, 0, 0], Device::Lamp { lit: true, ticks_left: 2 }),
+        ] {
+            let row = find(&input.table, at).expect("a row");
+            input.state[STATE_BYTES * row..][..STATE_BYTES].copy_from_slice(&device.bytes());
+        }
+        input
+    }
+
+    /// A row of each kind.
+    fn all_kinds() -> Self {
+        Self::new((0..).zip(Kind::ALL).map(|(x, &kind)| Row::new(kind, [x, 0, 0])))
+    }
+
+    /// What every call answers, where it is refused. The reason has the number and the row of the answer; and where a
+    /// call is not refused, the tests for the reason find nothing.
+    fn refusals(&self) -> [Option<Refusal>; 6] {
+        let Self { profile, table, devices, state, limit, tick: number, .. } = self;
+        let mut lent = Lent::of_lengths(self.columns);
+        let lengths = &lent.columns().lengths();
+        let (mut fresh_state, mut list) = (vec![0; self.fresh], vec![0; self.list]);
+        let answers = [
+            (
+                fresh(profile, table, &mut fresh_state, lent.columns()).err(),
+                checks::fresh(profile, table, &fresh_state, lengths).err(),
+            ),
+            (
+                settle(profile, table, devices, *limit, lent.columns()).err(),
+                checks::settle(profile, table, devices, *limit, lengths).err(),
+            ),
+            (
+                tick(profile, table, &mut state.clone(), *number, 1, lent.columns()).err(),
+                checks::tick(profile, table, state, *number, 1, lengths).err(),
+            ),
+            (
+                switch(profile, &mut table.clone(), state, [0; 3], true, lent.columns()).err(),
+                checks::switch(profile, table, state, lengths).err(),
+            ),
+            (redraw(profile, &mut table.clone()).err(), checks::redraw(profile, table).err()),
+            (supports(profile, table, &mut list).err(), checks::supports(profile, table, &list).err()),
+        ];
+        answers.map(|(answer, found)| {
+            // Settle tells a limit that is too low by finding nothing else.
+            let found = found.filter(|fault| answer.is_some() || !matches!(fault, Fault::Unsettled { .. }));
+            assert_eq!(answer.map(|refusal| refusal.fault), found);
+            if let Some(refusal) = answer {
+                assert_eq!((refusal.fault.number(), refusal.fault.row()), (refusal.number, refusal.row));
+            }
+            answer
+        })
+    }
+
+    /// The reason that the calls give, all the same one.
+    fn fault(&self) -> Fault {
+        let refusals = self.refusals();
+        let mut faults = refusals.iter().flatten().map(|refusal| refusal.fault);
+        let first = faults.next().expect("a refusal");
+        assert!(faults.all(|fault| fault == first), "{refusals:?}");
+        first
+    }
+}
+
+/// Every byte of a buffer set to every value. Both accepted and refused inputs are met.
+fn every_byte(input: &Input, of: impl Fn(&mut Input) -> &mut [u8]) {
+    let mut tried = input.clone();
+    let (mut accepted, mut refused) = (0, 0);
+    for at in 0..of(&mut tried).len() {
+        let byte = of(&mut tried)[at];
+        for value in 0..=u8::MAX {
+            of(&mut tried)[at] = value;
+            let refusals = tried.refusals();
+            accepted += refusals.iter().filter(|refusal| refusal.is_none()).count();
+            refused += refusals.iter().flatten().count();
+        }
+        of(&mut tried)[at] = byte;
+    }
+    assert!(accepted > 0 && refused > 0);
+}
+
+#[test]
+fn reasons_agree_with_the_answers_on_every_profile_byte() {
+    every_byte(&Input::devices(), |input| &mut input.profile);
+}
+
+#[test]
+fn reasons_agree_with_the_answers_on_every_table_byte() {
+    every_byte(&Input::devices(), |input| &mut input.table);
+}
+
+#[test]
+fn reasons_agree_with_the_answers_on_every_device_byte() {
+    every_byte(&Input::devices(), |input| &mut input.devices);
+    every_byte(&Input::all_kinds(), |input| &mut input.devices);
+}
+
+#[test]
+fn reasons_agree_with_the_answers_on_every_state_byte() {
+    every_byte(&Input::devices(), |input| &mut input.state);
+    every_byte(&Input::all_kinds(), |input| &mut input.state);
+}
+
+/// A wrong length of each buffer, shorter and longer.
+#[test]
+fn reasons_agree_with_the_answers_on_every_length() {
+    let input = Input::devices();
+    assert_eq!(input.refusals(), [None; 6]);
+    for length in (0..64).chain([MOST_ROWS, MOST_ROWS + 1]) {
+        for change in [
+            |input: &mut Input, length| input.profile.resize(length, 0),
+            |input, length| input.table.resize(length, 0),
+            |input, length| input.table.resize(ROW_BYTES * length, 0),
+            |input, length| input.devices.resize(length, 0),
+            |input, length| input.state.resize(length, 0),
+            |input, length| input.state.resize(STATE_BYTES * length, 0),
+            |input, length| input.fresh = length,
+            |input, length| input.columns[0] = length,
+            |input, length| input.columns[1] = length,
+            |input, length| input.columns[2] = length,
+            |input, length| input.list = length,
+        ] as [fn(&mut Input, usize); 11]
+        {
+            let mut tried = input.clone();
+            change(&mut tried, length);
+            tried.refusals();
+        }
+    }
+}
+
+/// Two things wrong at once: the first of the table of refusals is given.
+#[test]
+fn reasons_agree_with_the_answers_on_two_faults() {
+    let changes: [fn(&mut Input); 14] = [
+        |input| input.profile[0] = 1,
+        |input| input.profile.push(0),
+        |input| input.table.push(0),
+        |input| input.table.resize(ROW_BYTES * (MOST_ROWS + 1), 0),
+        |input| input.table[ROW_BYTES + 13] = 7,
+        |input| input.table[2 * ROW_BYTES] = 0,
+        |input| input.devices.push(0),
+        |input| input.devices[6] = 255,
+        |input| input.state.push(0),
+        |input| input.state[9] = 1,
+        |input| input.fresh += 1,
+        |input| input.columns[2] += 1,
+        |input| input.limit = 1,
+        |input| input.tick = u32::MAX,
+    ];
+    for first in changes {
+        for second in changes {
+            let mut tried = Input::devices();
+            first(&mut tried);
+            second(&mut tried);
+            assert!(tried.refusals().iter().any(Option::is_some));
+        }
+    }
+}
+
+/// A repeater and a lamp, to see each message.
+fn small() -> Input {
+    Input::new([Row::new(Kind::Repeater, [0, 0, 0]).with_delay(2), Row::new(Kind::RedstoneLamp, [1, 2, 3])])
+}
+
+/// What a change is refused with.
+fn message(change: impl FnOnce(&mut Input)) -> String {
+    let mut input = small();
+    change(&mut input);
+    input.fault().to_string()
+}
+
+#[test]
+fn each_reason_says_what_is_wrong_and_what_would_be_right() {
+    assert_eq!(message(|input| input.profile.truncate(12)), "the profile has length 12; it must be 13");
+    assert_eq!(
+        message(|input| input.profile[3] = 32),
+        "byte 3 of the profile, RedstoneWire's, is 32; it may be at most 31"
+    );
+    assert_eq!(
+        message(|input| input.profile[0] = 1),
+        "byte 0 of the profile, Air's, is 1; it may be at most 0"
+    );
+    assert_eq!(message(|input| input.table.push(0)), "the table has length 65; it must be 32 for each row");
+    assert_eq!(
+        message(|input| input.table.resize(32 * 1025, 0)),
+        "the table has 1025 rows; it may have at most 1024"
+    );
+    assert_eq!(
+        message(|input| input.table[ROW_BYTES + 29] = 2),
+        "row 1 at 1,2,3: subtract (byte 29) is 2; it may be from 0 to 1"
+    );
+    assert_eq!(
+        message(|input| input.table[0] = 2),
+        "row 1 at 1,2,3 comes after row 0 at 2,0,0; the order is by x, then y, then z"
+    );
+    let same = |input: &mut Input| input.table.copy_within(0..12, ROW_BYTES);
+    assert_eq!(message(same), "rows 0 and 1 are both at 0,0,0; each position may be there once");
+    assert_eq!(
+        message(|input| input.devices.push(0)),
+        "the device column has length 3; for this table it must be 2"
+    );
+    assert_eq!(
+        message(|input| input.devices[1] = 9),
+        "the device column's row 1, of a RedstoneLamp at 1,2,3: device (byte 0) is 9; it must be 0, as the row is \
+         no repeater, torch or comparator"
+    );
+    assert_eq!(message(|input| input.state.push(0)), "the state has length 33; for this table it must be 32");
+    assert_eq!(
+        message(|input| input.state[1] = 4),
+        "the state's row 0, of a Repeater at 0,0,0: queue (byte 1) is 4; it may be from 0 to 3"
+    );
+    assert_eq!(
+        message(|input| input.state[STATE_BYTES + 3] = 1),
+        "the state's row 1, of a RedstoneLamp at 1,2,3: ticks left (byte 3) is 1; it must be 0, as lamp lit \
+         (byte 2) is"
+    );
+    assert_eq!(
+        message(|input| input.columns[1] = 1),
+        "the weak column has length 1; for this table it must be 2"
+    );
+    assert_eq!(message(|input| input.fresh = 2), "the state has length 2; for this table it must be 32");
+    assert_eq!(
+        message(|input| input.list = 3),
+        "the column of rows has length 3; for this table it must be 2"
+    );
+    assert_eq!(
+        message(|input| input.limit = 1),
+        "the table does not settle within a limit of 1; 17 is always enough"
+    );
+    assert_eq!(
+        message(|input| input.tick = u32::MAX),
+        "tick 4294967295 plus 1 is past 4294967295, the last; 0 more can be asked for"
+    );
+}
+
+#[test]
+fn a_refusal_has_its_number_its_word_and_its_reason() {
+    let table = table([Row::new(Kind::Solid, [0; 3]); 2]);
+    let refusal = redraw(&BENCH_PROFILE, &mut table.clone()).expect_err("misplaced");
+    let reason = Fault::Misplaced { row: 1, position: [0; 3], before: [0; 3] };
+    assert_eq!((refusal.number, refusal.row, refusal.fault), (5, 1, reason));
+    assert_eq!(
+        refusal.to_string(),
+        "refusal 5, misplaced: rows 0 and 1 are both at 0,0,0; each position may be there once"
+    );
+    let refusal = redraw(&BENCH_PROFILE[..PROFILE_BYTES - 1], &mut []).expect_err("profile");
+    assert_eq!(refusal.fault, Fault::ProfileLength { length: 12 });
+    let refusal = supports(&BENCH_PROFILE, &[], &mut [0]).expect_err("column");
+    assert_eq!(refusal.fault, Fault::Column { buffer: Buffer::Rows, length: 1, expected: 0 });
+}

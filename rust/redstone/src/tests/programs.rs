@@ -1,0 +1,76 @@
+//! Programs in C and in Rust over the calls: the examples, and what a test wants of its own.
+
+use std::path::{Path, PathBuf};
+use std::process::Command;
+
+/// Stack that is free when a call begins and is said to be enough for it.
+const FREE_STACK: usize = 48 * 1024;
+
+fn package(name: &str) -> PathBuf {
+    Path::new(env!("CARGO_MANIFEST_DIR")).join(name)
+}
+
+/// What a command wrote that ended well. One that cannot be run fails the test.
+fn written(command: &mut Command) -> String {
+    let output = command.output().unwrap_or_else(|error| panic!("{command:?} cannot be run: {error}"));
+    let errors = String::from_utf8_lossy(&output.stderr);
+    assert!(output.status.success(), "{command:?}: {}\n{errors}", output.status);
+    String::from_utf8_lossy(&output.stdout).into_owned()
+}
+
+/// What a C program of the package writes, compiled with the header and linked with the library.
+fn c_program(source: &str) -> String {
+    let source = package(source);
+    let program = Path::new(env!("OUT_DIR")).join(source.file_stem().expect("a file"));
+    let mut compiler = Command::new("cc");
+    compiler.args(["-std=c11", "-Wall", "-Wextra", "-Wpedantic", "-Werror", "-pthread", "-I"]);
+    compiler.arg(package("include")).arg(source).arg(env!("REDSTONE_ARCHIVE")).arg("-o").arg(&program);
+    written(&mut compiler);
+    written(&mut Command::new(program))
+}
+
+/// What an example of the package writes, built by cargo.
+fn rust_example(name: &str) -> String {
+    let mut cargo = Command::new(env!("CARGO"));
+    cargo.args(["run", "--quiet", "--offline", "--example", name]);
+    written(cargo.current_dir(package("")))
+}
+
+/// Test 3 of the book.
+#[test]
+fn a_c_program_settles_a_line() {
+    let lines = "blocks=5\nrounds=4\nrow=0,1,0,15,0,0\nrow=1,0,0,0,15,0\nrow=1,1,0,15,0,0\n\
+                 row=2,0,0,0,14,0\nrow=2,1,0,14,0,0\n";
+    assert_eq!(c_program("src/tests/line.c"), lines);
+}
+
+/// What both examples write, but for their refusals.
+const LAMP: &str = "\
+tick 0, fresh: block 0, repeater 0, lamp dark
+tick 0, switched on: block 15, repeater 0, lamp dark
+tick 1, ticked: block 15, repeater 0, lamp dark
+tick 2, ticked: block 15, repeater 15, lamp lit
+tick 2, switched off: block 0, repeater 15, lamp lit
+tick 7, ticked: block 0, repeater 0, lamp dark
+";
+
+#[test]
+fn the_example_in_c_runs() {
+    assert_eq!(c_program("examples/lamp.c"), format!("{LAMP}tick 7, refused: refusal 4, row 2\n"));
+}
+
+#[test]
+fn the_example_in_rust_runs() {
+    let refusal = "refusal 5, misplaced: rows 0 and 1 are both at 0,1,0; each position may be there once";
+    assert_eq!(rust_example("lamp"), format!("{LAMP}{refusal}\n"));
+}
+
+#[test]
+fn the_calls_need_little_stack() {
+    let used: usize = c_program("src/tests/stack.c").trim().parse().expect("a number");
+    println!("the calls used {used} bytes of stack");
+    assert!(
+        used <= FREE_STACK,
+        "the calls used {used} bytes of stack, and {FREE_STACK} are said to be enough"
+    );
+}

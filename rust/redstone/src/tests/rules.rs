@@ -1,0 +1,126 @@
+//! What the documentation says of filling in a table.
+
+use crate::{BENCH_PROFILE, Circuit, Device, Facing, Kind, Row, Shape};
+
+fn circuit(rows: impl IntoIterator<Item = Row>) -> Circuit {
+    Circuit::new(&BENCH_PROFILE, rows).expect("an accepted table")
+}
+
+fn signal(circuit: &Circuit, position: [i32; 3]) -> u8 {
+    circuit.at(position).expect("a block").figures.signal
+}
+
+fn strong(circuit: &Circuit, position: [i32; 3]) -> u8 {
+    circuit.at(position).expect("a block").figures.strong
+}
+
+fn device(row: Row) -> Device {
+    circuit([row]).block(0).expect("a block").device
+}
+
+#[test]
+fn a_repeater_or_comparator_faces_its_output() {
+    let lit = |kind, facing: Option<Facing>| {
+        let device = Row::new(kind, [0, 0, 0]).with_powered(true).with_facing(facing);
+        let lamps = [[1, 0, 0], [-1, 0, 0]].map(|position| Row::new(Kind::RedstoneLamp, position));
+        let circuit = circuit([device].into_iter().chain(lamps));
+        [[1, 0, 0], [-1, 0, 0]].map(|position| strong(&circuit, position))
+    };
+    for kind in [Kind::Repeater, Kind::Comparator] {
+        assert_eq!(lit(kind, Some(Facing::East)), [15, 0]);
+        assert_eq!(lit(kind, Some(Facing::West)), [0, 15]);
+        assert_eq!(lit(kind, Some(Facing::Up)), [0, 0]);
+        assert_eq!(lit(kind, None), [0, 0]);
+    }
+}
+
+#[test]
+fn a_lever_button_or_plate_powers_the_block_at_its_support_offset() {
+    for kind in [Kind::Lever, Kind::Button, Kind::PressurePlate] {
+        let source = Row::new(kind, [0, 1, 0]).with_powered(true);
+        let others = [Row::new(Kind::Solid, [0, 0, 0]), Row::new(Kind::RedstoneWire, [1, 1, 0])];
+        let with = |source| {
+            let circuit = circuit([source].into_iter().chain(others));
+            (strong(&circuit, [0, 0, 0]), signal(&circuit, [1, 1, 0]))
+        };
+        assert_eq!(with(source.with_support([0, -1, 0])), (15, 15));
+        assert_eq!(with(source), (0, 15));
+        assert_eq!(with(source.with_power_level(7).with_support([0, -1, 0])), (7, 7));
+        assert_eq!(with(source.with_power_level(200).with_support([0, -1, 0])), (15, 15));
+        assert_eq!(with(source.with_powered(None).with_support([0, -1, 0])), (0, 0));
+    }
+}
+
+#[test]
+fn fresh_devices_start_as_their_rows_say() {
+    let of = |kind| Row::new(kind, [0, 0, 0]);
+    let torch = |lit| Device::Torch { lit, toggles: 0, candidate: false };
+    assert_eq!(device(of(Kind::RedstoneTorch)), torch(true));
+    assert_eq!(device(of(Kind::RedstoneTorch).with_powered(false)), torch(false));
+    let repeater = |powered, queue| Device::Repeater { powered, queue };
+    assert_eq!(device(of(Kind::Repeater)), repeater(false, 0));
+    assert_eq!(device(of(Kind::Repeater).with_powered(true)), repeater(true, 0b1));
+    assert_eq!(device(of(Kind::Repeater).with_powered(true).with_delay(0)), repeater(true, 0b1));
+    assert_eq!(device(of(Kind::Repeater).with_powered(true).with_delay(9)), repeater(true, 0b1111));
+    let comparator = of(Kind::Comparator);
+    assert_eq!(device(comparator), Device::Comparator { level: 0 });
+    assert_eq!(device(comparator.with_powered(true)), Device::Comparator { level: 15 });
+    assert_eq!(
+        device(comparator.with_powered(false).with_power_level(200)),
+        Device::Comparator { level: 200 }
+    );
+}
+
+/// The fresh figures are an instant, not the state of rest.
+#[test]
+fn a_torch_on_a_powered_block_is_lit_until_a_tick() {
+    let mut circuit = circuit([
+        Row::new(Kind::Lever, [0, 1, 0]).with_powered(true).with_support([0, -1, 0]),
+        Row::new(Kind::Solid, [0, 0, 0]),
+        Row::new(Kind::RedstoneTorch, [1, 0, 0]).with_support([-1, 0, 0]),
+        Row::new(Kind::RedstoneTorch, [2, 0, 0]),
+    ]);
+    assert_eq!(signal(&circuit, [1, 0, 0]), 15);
+    circuit.tick(1).expect("accepted");
+    assert_eq!(signal(&circuit, [1, 0, 0]), 0);
+    assert_eq!(signal(&circuit, [2, 0, 0]), 15);
+}
+
+/// y is up: dust climbs a block with dust on it, and power comes down a solid one alone.
+#[test]
+fn power_climbs_every_shape_and_comes_down_solid_ones() {
+    let line = |shape, source: [i32; 3]| {
+        let dust = [[1, 0, 0], [2, 1, 0]];
+        let rows = dust.map(|position| Row::new(Kind::RedstoneWire, position));
+        let block = Row::new(Kind::Solid, [2, 0, 0]).with_shape(shape);
+        let circuit = circuit(rows.into_iter().chain([block, Row::new(Kind::RedstoneBlock, source)]));
+        dust.map(|position| signal(&circuit, position))
+    };
+    for shape in [Shape::Plain, Shape::DoubleSlab] {
+        assert_eq!(line(shape, [0, 0, 0]), [15, 14]);
+        assert_eq!(line(shape, [3, 1, 0]), [14, 15]);
+    }
+    for shape in [Shape::TopSlab, Shape::TopStairs, Shape::Glass] {
+        assert_eq!(line(shape, [0, 0, 0]), [15, 14]);
+        assert_eq!(line(shape, [3, 1, 0]), [0, 15]);
+    }
+    for shape in [Shape::BottomSlab, Shape::BottomStairs] {
+        assert_eq!(line(shape, [0, 0, 0]), [15, 0]);
+    }
+}
+
+#[test]
+fn strong_power_alone_drives_dust() {
+    let below = |rows: &[Row]| {
+        let block = Row::new(Kind::Solid, [1, 0, 0]);
+        let dust = Row::new(Kind::RedstoneWire, [1, -1, 0]);
+        let circuit = circuit(rows.iter().copied().chain([block, dust]));
+        let block = circuit.at([1, 0, 0]).expect("a block").figures;
+        (block.weak, block.strong, signal(&circuit, [1, -1, 0]))
+    };
+    let dust = [Row::new(Kind::RedstoneBlock, [0, 1, 0]), Row::new(Kind::RedstoneWire, [1, 1, 0])];
+    assert_eq!(below(&dust), (15, 0, 0));
+    let lever = Row::new(Kind::Lever, [1, 1, 0]).with_powered(true).with_support([0, -1, 0]);
+    let (_, strong, level) = below(&[lever]);
+    assert_eq!((strong, level), (15, 15));
+}
