@@ -1,10 +1,14 @@
 .PHONY: run test
 # The input of `make run`: 13 bytes of profile, then the table.
 TABLE ?= crates/settle/stdin
+# The hall whose ticks `make run` shows after that: a sample, unless there is a TABLE of one's own.
+HALL ?= $(if $(filter file,$(origin TABLE)),halls/repeater-lock.hall)
 
-# Proves and builds the program `settle`, and runs it.
+# Proves and builds the program `settle`, and runs it; then the program `hall`.
 run:
 	@bin/run "$(TABLE)"
+	@[ -z "$(HALL)" ] || [ ! -d rust/hall ] || { echo; \
+	cargo run --quiet --offline --locked --release --manifest-path rust/Cargo.toml -p hall -- run "$(HALL)"; }
 
 # Proves every crate, tries the must-fail edits, runs the programs and the Rust tests.
 test:

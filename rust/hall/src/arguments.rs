@@ -1,0 +1,114 @@
+//! The words that a command is called with.
+
+use std::ffi::{OsStr, OsString};
+use std::fmt::Display;
+use std::ops::RangeInclusive;
+use std::str::FromStr;
+
+use redstone_text::Word;
+
+use crate::command::{Choice, Command, Failure, PROFILE, SWITCH, TICKS};
+use crate::run::Run;
+use crate::{DEFAULT_TICKS, Hall, MOST_SHOWN_TICKS, input};
+
+/// The words after a command's name.
+#[derive(Debug, Default)]
+pub struct Arguments {
+    /// Those that are no options.
+    pub operands: Vec<OsString>,
+    options: Vec<(&'static str, OsString)>,
+}
+
+impl Arguments {
+    /// Reads the words after a command's name.
+    pub(crate) fn read(
+        command: &Command,
+        mut words: impl Iterator<Item = OsString>,
+    ) -> Result<Self, Failure> {
+        let (mut arguments, mut only_operands) = (Self::default(), false);
+        while let Some(word) = words.next() {
+            let text = word.to_string_lossy().into_owned();
+            if only_operands || !text.starts_with('-') || text == "-" {
+                arguments.operands.push(word);
+                continue;
+            }
+            if text == "--" {
+                only_operands = true;
+                continue;
+            }
+            let (name, value) = match text.split_once('=') {
+                Some((name, value)) if name.starts_with("--") => (name, Some(OsString::from(value))),
+                _ => (text.as_str(), None),
+            };
+            let choice = command.choice(name)?;
+            if !choice.may_repeat && arguments.option(choice).is_some() {
+                return Err(Failure::sentence(format!("{name} is given twice: give it once")));
+            }
+            let value = value.or_else(|| words.next()).ok_or_else(|| {
+                Failure::sentence(format!("{name} has no value: give {name} {}", choice.value))
+            })?;
+            arguments.options.push((choice.name, value));
+        }
+        Ok(arguments)
+    }
+
+    /// The value of an option.
+    #[must_use]
+    pub fn option(&self, choice: &Choice) -> Option<&OsStr> {
+        self.options(choice).next()
+    }
+
+    fn options(&self, choice: &Choice) -> impl Iterator<Item = &OsStr> {
+        self.options.iter().filter(|(name, _)| *name == choice.name).map(|(_, value)| value.as_os_str())
+    }
+
+    /// The value of an option as a whole number of a range.
+    pub(crate) fn number<T>(&self, choice: &Choice, range: RangeInclusive<T>) -> Result<Option<T>, Failure>
+    where
+        T: FromStr + PartialOrd + Display,
+    {
+        let Some(value) = self.option(choice) else { return Ok(None) };
+        let text = value.to_string_lossy();
+        let number = Word { line: 1, column: 1, text: &text }.number(range);
+        number.map(Some).map_err(|error| Failure::sentence(format!("{}: {}", choice.name, error.message())))
+    }
+
+    /// The one operand. `missing` is the sentence for where there is none.
+    pub(crate) fn one(&self, missing: &str) -> Result<&OsStr, Failure> {
+        match &self.operands[..] {
+            [one] => Ok(one),
+            [] => Err(Failure::sentence(missing)),
+            [_, second, ..] => {
+                let second = second.to_string_lossy();
+                Err(Failure::sentence(format!("{second} is one word too many: give one name")))
+            }
+        }
+    }
+
+    /// The one file that is named.
+    pub(crate) fn file(&self) -> Result<&OsStr, Failure> {
+        self.one("no hall is named: give a file, or - for standard input")
+    }
+
+    /// The profile that `--profile` names.
+    pub(crate) fn profile(&self) -> Result<Option<Vec<u8>>, Failure> {
+        Ok(self.option(&PROFILE).map(input::read_profile).transpose()?)
+    }
+
+    /// The hall that the one operand names, with the switches of `--switch`.
+    pub(crate) fn hall(&self) -> Result<Hall, Failure> {
+        let mut hall = input::read(self.file()?, self.profile()?.as_deref())?;
+        for value in self.options(&SWITCH) {
+            let text = value.to_string_lossy();
+            hall.add_switch(&text)
+                .map_err(|error| Failure::sentence(format!("{} {text}: {}", SWITCH.name, error.message())))?;
+        }
+        Ok(hall)
+    }
+
+    /// A hall's run for as many ticks as `--ticks` says.
+    pub(crate) fn run(&self, hall: &Hall) -> Result<Run, Failure> {
+        let ticks = self.number(&TICKS, 0..=MOST_SHOWN_TICKS)?.unwrap_or(DEFAULT_TICKS);
+        Ok(Run::new(hall, ticks)?)
+    }
+}

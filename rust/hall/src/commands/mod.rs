@@ -1,0 +1,24 @@
+//! The commands, one module each.
+
+use crate::command::Command;
+
+mod check;
+mod csv;
+mod levels;
+mod new;
+mod pack;
+mod report;
+mod run;
+mod unpack;
+
+/// All commands, in the order in which `--help` lists them. A new one is a module and a line here.
+pub const COMMANDS: &[&Command] = &[
+    &new::COMMAND,
+    &run::COMMAND,
+    &levels::COMMAND,
+    &check::COMMAND,
+    &report::COMMAND,
+    &csv::COMMAND,
+    &pack::COMMAND,
+    &unpack::COMMAND,
+];

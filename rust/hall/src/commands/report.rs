@@ -1,0 +1,34 @@
+//! `hall report`: a page of a hall.
+
+use std::io::Write;
+
+use crate::arguments::Arguments;
+use crate::command::{Command, Failure, OUT, PROFILE, SWITCH, Status, TICKS};
+use crate::expect::meet;
+use crate::html::{page, refused_page};
+use crate::output::deliver;
+
+pub const COMMAND: Command = Command {
+    name: "report",
+    operands: "FILE",
+    summary: "writes a page with pictures, charts and events, to read and to print",
+    help: "\
+The page is one file and needs no other and no script. It shows what is expected beside what is given, and so ends with
+the status of `hall check`. Of a file that is refused it gives the reason.",
+    options: &[&OUT, &TICKS, &SWITCH, &PROFILE],
+    run,
+};
+
+fn run(arguments: &Arguments, out: &mut dyn Write) -> Result<Status, Failure> {
+    let (input, file) = (arguments.file()?, arguments.option(&OUT));
+    let hall = match arguments.hall() {
+        Err(Failure::Refused(refused)) => {
+            deliver(refused_page(&refused).as_bytes(), file, input, out)?;
+            return Err(refused.into());
+        }
+        other => other?,
+    };
+    let (run, met) = (arguments.run(&hall)?, meet(&hall)?);
+    deliver(page(&hall, &run, &met)?.as_bytes(), file, input, out)?;
+    Ok(if met.iter().all(|met| met.is_met) { Status::Good } else { Status::Differs })
+}

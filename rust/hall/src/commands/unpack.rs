@@ -1,0 +1,32 @@
+//! `hall unpack`: from bytes to text.
+
+use std::io::Write;
+
+use redstone_text::Table;
+
+use crate::arguments::Arguments;
+use crate::command::{Command, Failure, OUT, PROFILE, Status};
+use crate::output::deliver;
+
+pub const COMMAND: Command = Command {
+    name: "unpack",
+    operands: "FILE",
+    summary: "writes a hall in the text form",
+    help: "\
+One line for each row, in the table's order, and before them `blocks=` and, where it is not the bench profile, `profile`.
+Packed again it gives the same bytes.",
+    options: &[&PROFILE, &OUT],
+    run,
+};
+
+fn run(arguments: &Arguments, out: &mut dyn Write) -> Result<Status, Failure> {
+    let hall = arguments.hall()?;
+    let profile = hall
+        .fresh
+        .profile()
+        .try_into()
+        .map_err(|_| Failure::sentence("the text form has no place for a profile of this length"))?;
+    let text = Table { profile, rows: hall.rows }.to_string();
+    deliver(text.as_bytes(), arguments.option(&OUT), arguments.file()?, out)?;
+    Ok(Status::Good)
+}

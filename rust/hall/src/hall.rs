@@ -1,0 +1,111 @@
+//! A hall: a table that the calls accepted, with the switches and the expectations that its file has beside the rows.
+
+use redstone::{Circuit, Fault, Refusal, Row};
+use redstone_text::{TableReader, Word, lines};
+
+use crate::Refused;
+use crate::course::Course;
+use crate::expect::{EXPECT, Expectation};
+use crate::switch::{SWITCH, Switch, check_place};
+
+/// A hall.
+#[derive(Clone, Debug)]
+pub struct Hall {
+    /// The file, as it was named.
+    pub name: String,
+    /// The table in its fresh state.
+    pub fresh: Circuit,
+    /// The rows, in the table's order.
+    pub rows: Vec<Row>,
+    /// What is set during a run.
+    pub switches: Vec<Switch>,
+    /// What the file expects of the figures.
+    pub expectations: Vec<Expectation>,
+}
+
+impl Hall {
+    /// Reads the text form.
+    ///
+    /// # Errors
+    ///
+    /// A line cannot be read, speaks of a position where no such block stands, or the table is refused.
+    pub fn from_text(name: &str, text: &str, profile: Option<&[u8]>) -> Result<Self, Refused> {
+        let refused = |error| Refused::text(name, &error);
+        let mut reader = TableReader::new();
+        let (mut switches, mut expectations) = (Vec::new(), Vec::new());
+        for line in lines(text) {
+            if reader.read(line).map_err(refused)? {
+                continue;
+            }
+            match line.words().next().map(|word| word.text) {
+                Some(SWITCH) => switches.push(Switch::read_line(line).map_err(refused)?),
+                Some(EXPECT) => expectations.push(Expectation::read(line).map_err(refused)?),
+                _ => {
+                    let known = [TableReader::WORDS, &[SWITCH, EXPECT]].concat();
+                    return Err(refused(line.unknown(&known)));
+                }
+            }
+        }
+        let table = reader.table().map_err(refused)?;
+        let fresh = Circuit::new(profile.unwrap_or(&table.profile), table.rows.iter().copied())
+            .map_err(|refusal| refused_table(name, &refusal, &reader))?;
+        let rows = table.rows;
+        let switches =
+            switches.into_iter().map(|placed| check_place(placed, &rows)).collect::<Result<_, _>>();
+        let expectations =
+            expectations.into_iter().map(|placed| placed.check(&rows)).collect::<Result<_, _>>();
+        Ok(Self {
+            name: name.to_owned(),
+            fresh,
+            switches: switches.map_err(refused)?,
+            expectations: expectations.map_err(refused)?,
+            rows,
+        })
+    }
+
+    /// Reads the packed form: the profile's bytes, and then the table's.
+    ///
+    /// # Errors
+    ///
+    /// The profile or the table is refused.
+    pub fn from_packed(name: &str, profile: &[u8], table: &[u8]) -> Result<Self, Refused> {
+        let fresh = Circuit::from_table(profile, table).map_err(|refusal| {
+            let form = "it was taken for the packed form, since it has a zero byte";
+            Refused::file(name, format!("{refusal} ({form})"))
+        })?;
+        let rows = fresh.blocks().map(|block| block.row).collect();
+        Ok(Self { name: name.to_owned(), fresh, rows, switches: Vec::new(), expectations: Vec::new() })
+    }
+
+    /// Adds a switch, as in `4:0,1,0=on`.
+    ///
+    /// # Errors
+    ///
+    /// The text is none, or no lever, button or plate stands there.
+    pub fn add_switch(&mut self, text: &str) -> Result<(), redstone_text::Error> {
+        let placed = Switch::read_word(Word { line: 1, column: 1, text })?;
+        self.switches.push(check_place(placed, &self.rows)?);
+        Ok(())
+    }
+
+    /// The hall from its fresh state on.
+    ///
+    /// # Errors
+    ///
+    /// None: no call refuses what it has accepted.
+    pub fn course(&self) -> Result<Course, Refusal> {
+        Course::new(self.fresh.clone(), &self.switches)
+    }
+}
+
+/// A refusal with the line of the row at fault.
+fn refused_table(name: &str, refusal: &Refusal, reader: &TableReader) -> Refused {
+    let line = match refusal.fault {
+        Fault::BadRow { position, .. } => reader.line_of(position),
+        _ => None,
+    };
+    match line {
+        Some(line) => Refused::line(name, line, refusal.to_string()),
+        None => Refused::file(name, refusal.to_string()),
+    }
+}

@@ -1,0 +1,295 @@
+//! Hints: the commonest circuits in which the game differs from the bench, by the numbers of docs/DIFFERENCES.md. They are
+//! no figures, and change none.
+
+mod view;
+
+use std::fmt::{self, Display, Formatter};
+
+use redstone::{Device, Facing, Kind, Refusal};
+
+use self::view::{SIDES, View};
+use crate::device::is_candidate;
+use crate::hall::Hall;
+use crate::name::{block_name, is_switch};
+use crate::run::{Frame, Run, delay_ticks};
+
+/// A circuit in which the game differs, and where the hall has it.
+#[derive(Clone, Debug, Eq, PartialEq)]
+pub struct Hint {
+    /// The number in docs/DIFFERENCES.md.
+    pub number: u8,
+    /// What the hall has, and what the game makes of it.
+    pub sentence: &'static str,
+    /// The blocks and their places.
+    pub blocks: Vec<String>,
+}
+
+/// The most blocks that a hint names.
+const MOST_NAMED: usize = 6;
+
+/// The blocks and the sentence.
+impl Display for Hint {
+    fn fmt(&self, f: &mut Formatter<'_>) -> fmt::Result {
+        let named = self.blocks.len().min(MOST_NAMED);
+        write!(f, "{}", self.blocks[..named].join(", "))?;
+        match self.blocks.len() - named {
+            0 => {}
+            more => write!(f, " and {more} more")?,
+        }
+        write!(f, ": {}", self.sentence)
+    }
+}
+
+/// The hints of a hall's run, by number.
+///
+/// # Errors
+///
+/// None: no call refuses what it has accepted.
+pub fn hints(hall: &Hall, run: &Run) -> Result<Vec<Hint>, Refusal> {
+    let view = View::new(hall, run)?;
+    let hint = |rule: &Rule| {
+        let found = (0..run.rows.len()).filter(|row| (rule.holds)(&view, *row));
+        let blocks: Vec<_> = found.map(|row| block_name(&run.rows[row])).collect();
+        (!blocks.is_empty()).then_some(Hint { number: rule.number, sentence: rule.sentence, blocks })
+    };
+    Ok(RULES.iter().filter_map(hint).collect())
+}
+
+/// When a hint is given of a row.
+struct Rule {
+    number: u8,
+    sentence: &'static str,
+    holds: fn(&View, usize) -> bool,
+}
+
+const RULES: &[Rule] = &[
+    Rule {
+        number: 1,
+        sentence: "it changes by itself after tick 0, while in the game it stands at rest; read the figures from \
+                   where nothing changes",
+        holds: |view, row| view.changes_by_itself(row) && !view.run.blinks(row),
+    },
+    Rule {
+        number: 2,
+        sentence: "a redstone block beside it powers it here, and no block in the game",
+        holds: |view, row| view.kind(row) != Kind::RedstoneLamp && view.powered_by_redstone_block(row),
+    },
+    Rule {
+        number: 3,
+        sentence: "a redstone block lights it, and here it passes the power on, in the game it does not",
+        holds: |view, row| {
+            view.kind(row) == Kind::RedstoneLamp
+                && view.powered_by_redstone_block(row)
+                && view.around(row).any(|other| view.reads(other, row))
+        },
+    },
+    Rule {
+        number: 4,
+        sentence: "a strongly powered block beside it powers it here, and no block in the game",
+        holds: |view, row| {
+            view.takes_power(row)
+                && view.around(row).any(|other| view.is_device_that_reads(other, row))
+                && view.ever(|frame| {
+                    let strong_beside = view.around(row).any(|other| frame.figures(other).strong > 0);
+                    let dust_beside = view.around(row).any(|other| view.is_dust_with_power(frame, other));
+                    let figures = frame.figures(row);
+                    figures.weak > 0 && figures.strong == 0 && strong_beside && !dust_beside
+                })
+        },
+    },
+    Rule {
+        number: 5,
+        sentence: "without a support field it never goes out here; in the game it goes out by its block",
+        holds: |view, row| view.kind(row) == Kind::RedstoneTorch && view.row(row).support().is_none(),
+    },
+    Rule {
+        number: 6,
+        sentence: "it is fixed to a redstone block, which puts it out in the game",
+        holds: |view, row| {
+            view.kind(row) == Kind::RedstoneTorch
+                && view.support(row).is_some_and(|block| view.kind(block) == Kind::RedstoneBlock)
+        },
+    },
+    Rule {
+        number: 7,
+        sentence: "it reads a repeater or comparator that points elsewhere, in the game it does not",
+        holds: |view, row| {
+            view.kind(row) == Kind::Repeater
+                && view.input(row).is_some_and(|block| view.points_past(block, row))
+        },
+    },
+    Rule {
+        number: 8,
+        sentence: "it reads a repeater or comparator that points elsewhere, in the game it does not",
+        holds: |view, row| {
+            let read = view.input(row).into_iter().chain(view.sides(row));
+            view.kind(row) == Kind::Comparator && { read }.any(|block| view.points_past(block, row))
+        },
+    },
+    Rule {
+        number: 9,
+        sentence: "it stands over dust that climbs, and cuts the way up and down in the game",
+        holds: |view, row| {
+            let below = view.at(row, Facing::Down);
+            view.kind(row) == Kind::RedstoneLamp && below.is_some_and(|dust| view.has_arm_up(dust))
+        },
+    },
+    Rule {
+        number: 10,
+        sentence: "it is pressed and stays so here; in the game it comes out by itself",
+        holds: |view, row| view.kind(row) == Kind::Button && view.ever_gives(row),
+    },
+    Rule {
+        number: 11,
+        sentence: "it is down and stays so here; in the game it comes up by itself",
+        holds: |view, row| view.kind(row) == Kind::PressurePlate && view.ever_gives(row),
+    },
+    Rule {
+        number: 12,
+        sentence: "it changes so often that it burns out in the game, and goes on here",
+        holds: |view, row| view.ever(|frame| is_candidate(frame.devices[row])),
+    },
+    Rule {
+        number: 13,
+        sentence: "it does nothing here; in the game it pushes blocks",
+        holds: |view, row| view.kind(row) == Kind::Piston,
+    },
+    Rule {
+        number: 15,
+        sentence: "nothing holds it up, and it drops in the game",
+        holds: |view, row| view.unsupported.contains(&row) && view.row(row).support().is_some(),
+    },
+    Rule {
+        number: 16,
+        sentence: "a line of dust ends at it, and powers it in the game, not here",
+        holds: |view, row| {
+            view.takes_power(row)
+                && SIDES
+                    .iter()
+                    .any(|side| view.at(row, *side).is_some_and(|dust| view.ends_towards(dust, *side)))
+        },
+    },
+    Rule {
+        number: 17,
+        sentence: "dust that stands alone is beside it, and powers it in the game, not here",
+        holds: |view, row| view.takes_power(row) && view.beside(row).any(|dust| view.is_alone(dust)),
+    },
+    Rule {
+        number: 18,
+        sentence: "a strongly powered block is beside it, and powers it in the game, not here",
+        holds: |view, row| {
+            let is_lower =
+                |frame: &Frame, block: usize| frame.figures(row).signal < frame.figures(block).strong.min(15);
+            view.kind(row) == Kind::RedstoneWire
+                && view.ever(|frame| view.beside(row).any(|block| is_lower(frame, block)))
+        },
+    },
+    Rule {
+        number: 19,
+        sentence: "a weakly powered block is beside it, and lights it in the game, not here",
+        holds: |view, row| {
+            view.is_dark_lamp_while(row, |frame, block| {
+                let figures = frame.figures(block);
+                figures.weak > 0 && figures.strong == 0
+            })
+        },
+    },
+    Rule {
+        number: 20,
+        sentence: "a lever, button or plate is beside it, and lights it in the game, not here",
+        holds: |view, row| {
+            view.is_dark_lamp_while(row, |frame, block| {
+                is_switch(view.kind(block)) && frame.figures(block).signal > 0
+            })
+        },
+    },
+    Rule {
+        number: 21,
+        sentence: "without a support field it powers no block here; in the game it powers the block that holds it",
+        holds: |view, row| is_switch(view.kind(row)) && view.row(row).support().is_none(),
+    },
+    Rule {
+        number: 22,
+        sentence: "a block is over it, and takes its power in the game, not here",
+        holds: |view, row| {
+            view.kind(row) == Kind::RedstoneTorch
+                && view.ever_gives(row)
+                && view.at(row, Facing::Up).is_some_and(|block| view.takes_power(block))
+        },
+    },
+    Rule {
+        number: 23,
+        sentence: "a lit torch is beside it, and lights it in the game, not here",
+        holds: |view, row| {
+            view.is_dark_lamp_while(row, |frame, block| {
+                let is_lit = matches!(frame.devices[block], Device::Torch { lit: true, .. });
+                is_lit && !view.stands_on(block, row)
+            })
+        },
+    },
+    Rule {
+        number: 24,
+        sentence: "a powered block is at its side, which it reads here and not in the game",
+        holds: |view, row| {
+            let has_power =
+                |frame: &Frame, block: usize| frame.figures(block).weak.max(frame.figures(block).strong) > 0;
+            view.kind(row) == Kind::Comparator
+                && view.sides(row).any(|block| view.ever(|frame| has_power(frame, block)))
+        },
+    },
+    Rule {
+        number: 25,
+        sentence: "a lever, button, plate or torch is at its side, which it reads here and not in the game",
+        holds: |view, row| {
+            let is_such =
+                |block: usize| is_switch(view.kind(block)) || view.kind(block) == Kind::RedstoneTorch;
+            view.kind(row) == Kind::Comparator
+                && view.sides(row).any(|block| is_such(block) && view.ever_gives(block))
+        },
+    },
+    Rule {
+        number: 34,
+        sentence: "it gives a pulse of one tick, which torches and comparators do not answer to in the game",
+        holds: |view, row| {
+            view.kind(row) == Kind::Repeater && view.shortest(row, 1).is_some_and(|ticks| ticks == 1)
+        },
+    },
+    Rule {
+        number: 35,
+        sentence: "it gives a pulse that is shorter than its delay; in the game it lasts as long as the delay",
+        holds: |view, row| {
+            view.shortest(row, 1).is_some_and(|ticks| ticks < delay_ticks(view.row(row)).into())
+        },
+    },
+    Rule {
+        number: 36,
+        sentence: "it is off for less than its delay; in the game it stays on",
+        holds: |view, row| {
+            view.shortest(row, 0).is_some_and(|ticks| ticks < delay_ticks(view.row(row)).into())
+        },
+    },
+    Rule {
+        number: 40,
+        sentence: "a switch powers it, and it is lit a tick later; in the game at once",
+        holds: |view, row| view.has_lamp_at_switch(row, |has_power, lit, _| has_power && !lit),
+    },
+    Rule {
+        number: 41,
+        sentence: "a switch takes its power, and it goes out three ticks later; in the game two",
+        holds: |view, row| {
+            view.has_lamp_at_switch(row, |has_power, lit, left| !has_power && lit && left == 0)
+        },
+    },
+    Rule {
+        number: 45,
+        sentence: "without a support field the support list names it; in the game it rests on the block below",
+        holds: |view, row| {
+            view.unsupported.contains(&row) && view.row(row).support().is_none() && !is_fixed(view.kind(row))
+        },
+    },
+];
+
+/// Whether the kind holds on to any side of a block.
+fn is_fixed(kind: Kind) -> bool {
+    kind == Kind::RedstoneTorch || is_switch(kind)
+}

@@ -1,0 +1,221 @@
+//! A run, with what stands beside what.
+
+use redstone::{Arm, Device, Facing, Kind, Refusal, Row, Shape, redraw, rows};
+
+use crate::device::place;
+use crate::hall::Hall;
+use crate::name::{find, moved, step};
+use crate::run::{Frame, Run};
+
+/// The sides of a block on its own level.
+pub const SIDES: [Facing; 4] = [Facing::North, Facing::East, Facing::South, Facing::West];
+
+fn opposite(facing: Facing) -> Facing {
+    match facing {
+        Facing::North => Facing::South,
+        Facing::East => Facing::West,
+        Facing::South => Facing::North,
+        Facing::West => Facing::East,
+        Facing::Up => Facing::Down,
+        Facing::Down => Facing::Up,
+    }
+}
+
+/// A run with what stands beside what.
+pub struct View<'a> {
+    pub run: &'a Run,
+    profile: &'a [u8],
+    /// The rows after a redraw, which shows where a line of dust ends.
+    redrawn: Vec<Row>,
+    pub unsupported: Vec<usize>,
+    /// For each row, the rows at its six sides, in the order of the facings.
+    around: Vec<[Option<usize>; 6]>,
+}
+
+impl<'a> View<'a> {
+    pub fn new(hall: &'a Hall, run: &'a Run) -> Result<Self, Refusal> {
+        let mut table = hall.fresh.table().to_vec();
+        redraw(hall.fresh.profile(), &mut table)?;
+        let redrawn = rows(&table).unwrap_or_default();
+        let around = |row: &Row| {
+            let at = |facing: &Facing| find(&run.rows, moved(row.position(), step(*facing)));
+            [0, 1, 2, 3, 4, 5].map(|number: usize| Facing::ALL.get(number).and_then(at))
+        };
+        Ok(Self {
+            run,
+            profile: hall.fresh.profile(),
+            redrawn,
+            unsupported: hall.fresh.unsupported()?,
+            around: run.rows.iter().map(around).collect(),
+        })
+    }
+
+    pub fn row(&self, row: usize) -> &Row {
+        &self.run.rows[row]
+    }
+
+    pub fn kind(&self, row: usize) -> Kind {
+        self.row(row).kind()
+    }
+
+    /// The row at a side of a row.
+    pub fn at(&self, row: usize, side: Facing) -> Option<usize> {
+        self.around[row][usize::from(side.code()) - 1]
+    }
+
+    pub fn around(&self, row: usize) -> impl Iterator<Item = usize> {
+        self.around[row].into_iter().flatten()
+    }
+
+    pub fn beside(&self, row: usize) -> impl Iterator<Item = usize> {
+        SIDES.into_iter().filter_map(move |side| self.at(row, side))
+    }
+
+    /// The row at the support offset.
+    pub fn support(&self, row: usize) -> Option<usize> {
+        let row = self.row(row);
+        find(&self.run.rows, moved(row.position(), row.support()?.map(i32::from)))
+    }
+
+    /// Where a repeater or comparator faces, if it is along the ground.
+    fn direction(&self, row: usize) -> Option<Facing> {
+        let is_directed = matches!(self.kind(row), Kind::Repeater | Kind::Comparator);
+        self.row(row).facing().filter(|facing| is_directed && SIDES.contains(facing))
+    }
+
+    fn output(&self, row: usize) -> Option<usize> {
+        self.at(row, self.direction(row)?)
+    }
+
+    pub fn input(&self, row: usize) -> Option<usize> {
+        self.at(row, opposite(self.direction(row)?))
+    }
+
+    pub fn sides(&self, row: usize) -> impl Iterator<Item = usize> {
+        let direction = self.direction(row);
+        let is_across =
+            move |side: &Facing| direction.is_some_and(|along| along != *side && opposite(along) != *side);
+        SIDES.into_iter().filter(is_across).filter_map(move |side| self.at(row, side))
+    }
+
+    pub fn ever(&self, holds: impl Fn(&Frame) -> bool) -> bool {
+        self.run.frames.iter().any(holds)
+    }
+
+    pub fn ever_gives(&self, row: usize) -> bool {
+        self.ever(|frame| frame.figures(row).signal > 0)
+    }
+
+    /// Whether a row can have weak or strong power.
+    pub fn takes_power(&self, row: usize) -> bool {
+        const WEAK_AND_STRONG: u8 = 6;
+        match self.row(row).shape() {
+            Shape::Plain => {
+                let properties = self.profile.get(usize::from(self.kind(row).code()));
+                properties.is_some_and(|properties| properties & WEAK_AND_STRONG != 0)
+            }
+            shape => shape == Shape::DoubleSlab,
+        }
+    }
+
+    /// Whether a torch, repeater or comparator, beside a block, answers to its power.
+    pub fn is_device_that_reads(&self, row: usize, block: usize) -> bool {
+        match self.kind(row) {
+            Kind::RedstoneTorch => self.support(row) == Some(block),
+            _ => self.input(row) == Some(block) || self.sides(row).any(|side| side == block),
+        }
+    }
+
+    /// Whether a row, beside a block with strong power, answers to it.
+    pub fn reads(&self, row: usize, block: usize) -> bool {
+        matches!(self.kind(row), Kind::RedstoneWire | Kind::RedstoneLamp)
+            || self.is_device_that_reads(row, block)
+    }
+
+    pub fn powered_by_redstone_block(&self, row: usize) -> bool {
+        self.takes_power(row) && self.around(row).any(|other| self.kind(other) == Kind::RedstoneBlock)
+    }
+
+    pub fn is_dust_with_power(&self, frame: &Frame, row: usize) -> bool {
+        self.kind(row) == Kind::RedstoneWire && frame.figures(row).signal > 0
+    }
+
+    /// Whether a repeater or comparator beside a row is ever on and does not point at it.
+    pub fn points_past(&self, device: usize, row: usize) -> bool {
+        let is_such = matches!(self.kind(device), Kind::Repeater | Kind::Comparator);
+        is_such && self.output(device) != Some(row) && self.ever_gives(device)
+    }
+
+    pub fn has_arm_up(&self, dust: usize) -> bool {
+        let arms = self.redrawn.get(dust).and_then(Row::arms).unwrap_or_default();
+        self.kind(dust) == Kind::RedstoneWire && arms.contains(&Some(Arm::Up))
+    }
+
+    /// Whether dust that ever has power ends, as a line, towards a block at the opposite of this side of the dust: the
+    /// redraw gives it an arm there that it has not.
+    pub fn ends_towards(&self, dust: usize, side_of_block: Facing) -> bool {
+        let arm = |row: Option<&Row>| {
+            let side = SIDES.iter().position(|side| *side == opposite(side_of_block))?;
+            row.and_then(Row::arms)?[side]
+        };
+        self.kind(dust) == Kind::RedstoneWire
+            && arm(self.redrawn.get(dust)) == Some(Arm::Side)
+            && !matches!(arm(Some(self.row(dust))), Some(Arm::Side | Arm::Up))
+            && self.ever_gives(dust)
+    }
+
+    /// Whether dust that ever has power connects to nothing.
+    pub fn is_alone(&self, dust: usize) -> bool {
+        let arms = |row: Option<&Row>| row.and_then(Row::arms).unwrap_or_default();
+        self.kind(dust) == Kind::RedstoneWire
+            && arms(self.redrawn.get(dust)) == [None; 4]
+            && !arms(Some(self.row(dust))).iter().any(|arm| matches!(arm, Some(Arm::Side | Arm::Up)))
+            && self.ever_gives(dust)
+    }
+
+    /// Whether a lamp has no power at a tick at which something holds of a block at one of its sides.
+    pub fn is_dark_lamp_while(&self, row: usize, holds: impl Fn(&Frame, usize) -> bool) -> bool {
+        let has_none = |frame: &Frame| frame.figures(row).weak == 0 && frame.figures(row).strong == 0;
+        self.kind(row) == Kind::RedstoneLamp
+            && self.ever(|frame| has_none(frame) && self.around(row).any(|other| holds(frame, other)))
+    }
+
+    /// Whether a torch is fixed to a block: by its field, or for want of one to the block below.
+    pub fn stands_on(&self, torch: usize, block: usize) -> bool {
+        let block_of_torch = match self.row(torch).support() {
+            Some(_) => self.support(torch),
+            None => self.at(torch, Facing::Down),
+        };
+        block_of_torch == Some(block)
+    }
+
+    /// Whether a device changes before anything is switched.
+    pub fn changes_by_itself(&self, row: usize) -> bool {
+        let first_switch = self.run.frames.iter().position(|frame| !frame.switches.is_empty());
+        let frames = &self.run.frames[..=first_switch.unwrap_or(self.run.last_tick())];
+        place(self.kind(row)).is_some() && frames.iter().any(|frame| frame.given(row) != frames[0].given(row))
+    }
+
+    /// The fewest ticks for which a repeater gives a value between two times at which it gives the other.
+    pub fn shortest(&self, row: usize, value: u8) -> Option<usize> {
+        if self.kind(row) != Kind::Repeater {
+            return None;
+        }
+        let given = self.run.given(row);
+        let mut spans: Vec<_> = given.chunk_by(|one, next| one == next).collect();
+        // The first and the last are cut off by the ends of the run.
+        spans.pop();
+        spans.iter().skip(1).filter(|span| span[0] == value).map(|span| span.len()).min()
+    }
+
+    /// Whether this holds of a lamp's power, light and ticks left when something is switched.
+    pub fn has_lamp_at_switch(&self, row: usize, holds: fn(bool, bool, u8) -> bool) -> bool {
+        let mut frames = self.run.frames.iter().filter(|frame| !frame.switches.is_empty());
+        frames.any(|frame| match frame.devices[row] {
+            Device::Lamp { lit, ticks_left } => {
+                holds(frame.figures(row).weak.max(frame.figures(row).strong) > 0, lit, ticks_left)
+            }
+            _ => false,
+        })
+    }
+}

@@ -1,0 +1,132 @@
+//! Halls from files and from standard input, in the text form or the packed form.
+
+use std::ffi::OsStr;
+use std::fs::File;
+use std::io::{self, ErrorKind, Read};
+use std::path::Path;
+
+use redstone::{MOST_ROWS, PROFILE_BYTES, ROW_BYTES};
+use redstone_text::{Profile, TableReader, lines};
+
+use crate::{Hall, Refused};
+
+/// The most bytes that the packed form may have.
+const MOST_PACKED: usize = PROFILE_BYTES + MOST_ROWS * ROW_BYTES;
+/// The most bytes of text that are read.
+const MOST_TEXT: usize = 4 << 20;
+
+/// Reads the hall that a file holds, or standard input for `-`. A profile that is given goes before the file's own.
+///
+/// # Errors
+///
+/// The file cannot be read, or holds no hall that can be run.
+pub fn read(file: &OsStr, profile: Option<&[u8]>) -> Result<Hall, Refused> {
+    let name = name(file);
+    let bytes = contents(file, &name)?;
+    if !is_packed(&bytes) {
+        return Hall::from_text(&name, text(&name, &bytes)?, profile);
+    }
+    if bytes.len() > MOST_PACKED {
+        // As the program `settle` has it, before all else.
+        let most = format!("{PROFILE_BYTES} of profile and {MOST_ROWS} rows of {ROW_BYTES}");
+        return Err(Refused::file(
+            &name,
+            format!("refusal 3, crowded: there are more than {MOST_PACKED} bytes, {most}"),
+        ));
+    }
+    let (own, table) = bytes.split_at(bytes.len().min(PROFILE_BYTES));
+    Hall::from_packed(&name, profile.unwrap_or(own), table)
+}
+
+/// Reads a profile: its bytes, or a text with a line `profile`.
+///
+/// # Errors
+///
+/// The file cannot be read, or holds no profile.
+pub fn read_profile(file: &OsStr) -> Result<Vec<u8>, Refused> {
+    let name = name(file);
+    let bytes = contents(file, &name)?;
+    if is_packed(&bytes) {
+        return Ok(bytes);
+    }
+    match profile_of(text(&name, &bytes)?) {
+        Ok(Some(profile)) => Ok(profile.to_vec()),
+        Ok(None) => Err(Refused::file(
+            &name,
+            "there is no profile in it: write a line as `profile Solid=31 Piston=1`",
+        )),
+        Err(error) => Err(Refused::text(&name, &error)),
+    }
+}
+
+/// The profile of a text that has a line `profile` and no other.
+fn profile_of(text: &str) -> Result<Option<Profile>, redstone_text::Error> {
+    let (mut reader, mut is_given) = (TableReader::new(), false);
+    for line in lines(text) {
+        match line.words().next() {
+            None => {}
+            Some(word) if word.text == "profile" => {
+                reader.read(line)?;
+                is_given = true;
+            }
+            Some(word) => return Err(word.unknown("the line of a profile", &["profile"])),
+        }
+    }
+    // A table without rows has to say so.
+    reader.read(lines("blocks=0\n").next().expect("a line"))?;
+    Ok(is_given.then_some(reader.table()?.profile))
+}
+
+/// A file's name in messages.
+fn name(file: &OsStr) -> String {
+    if is_standard_input(file) { "standard input".to_owned() } else { file.to_string_lossy().into_owned() }
+}
+
+/// Whether a file's name stands for standard input.
+pub(crate) fn is_standard_input(file: &OsStr) -> bool {
+    file == "-"
+}
+
+fn contents(file: &OsStr, name: &str) -> Result<Vec<u8>, Refused> {
+    let most = (MOST_TEXT + 1) as u64;
+    let mut bytes = Vec::new();
+    let read = if is_standard_input(file) {
+        io::stdin().lock().take(most).read_to_end(&mut bytes)
+    } else {
+        File::open(file).and_then(|opened| opened.take(most).read_to_end(&mut bytes))
+    };
+    read.map_err(|error| Refused::file(name, unreadable(Path::new(file), &error)))?;
+    Ok(bytes)
+}
+
+fn unreadable(file: &Path, error: &io::Error) -> String {
+    match error.kind() {
+        ErrorKind::NotFound => {
+            "there is no such file: look at its name, or begin one with `hall new`".to_owned()
+        }
+        ErrorKind::IsADirectory => {
+            format!("this is a folder: name files, as in {}", file.join("*.hall").display())
+        }
+        ErrorKind::PermissionDenied => "it may not be read: see who may with `ls -l`".to_owned(),
+        _ => format!("it cannot be read: {error}"),
+    }
+}
+
+/// A text has no zero byte, and a profile has one at its front.
+fn is_packed(bytes: &[u8]) -> bool {
+    bytes.contains(&0)
+}
+
+fn text<'a>(name: &str, bytes: &'a [u8]) -> Result<&'a str, Refused> {
+    if bytes.len() > MOST_TEXT {
+        let message =
+            format!("the text has more than {MOST_TEXT} bytes: a hall has at most {MOST_ROWS} rows");
+        return Err(Refused::file(name, message));
+    }
+    // Some editors put a mark before a text.
+    let bytes = bytes.strip_prefix("\u{feff}".as_bytes()).unwrap_or(bytes);
+    str::from_utf8(bytes).map_err(|error| {
+        let line = 1 + bytes[..error.valid_up_to()].iter().filter(|byte| **byte == b'\n').count();
+        Refused::line(name, line, "the text is not UTF-8, nor is it the packed form: save it as UTF-8")
+    })
+}

@@ -1,0 +1,65 @@
+//! What a command writes to: standard output or a file, with every failure noticed.
+
+use std::ffi::OsStr;
+use std::fs::{self, File};
+use std::io::{self, BufWriter, ErrorKind, Write};
+use std::os::fd::AsFd;
+use std::os::unix::fs::MetadataExt;
+use std::path::Path;
+
+use crate::command::Failure;
+
+/// Standard output. Unlike [`io::Stdout`] it takes a descriptor that cannot be written for a failure.
+///
+/// # Errors
+///
+/// Standard output is closed.
+pub fn standard_output() -> io::Result<BufWriter<File>> {
+    let descriptor = io::stdout().as_fd().try_clone_to_owned()?;
+    Ok(BufWriter::with_capacity(1 << 16, File::from(descriptor)))
+}
+
+/// The sentence for output that could not be written.
+pub(crate) fn unwritten(name: &str, error: &io::Error) -> String {
+    match error.kind() {
+        ErrorKind::BrokenPipe => format!("{name} was closed before all was written"),
+        ErrorKind::StorageFull => format!("{name} could not be written: the disk is full"),
+        _ => format!("{name} could not be written: {error}"),
+    }
+}
+
+/// Writes bytes to the file that `-o` names, or to standard output for `-` and where there is no `-o`.
+pub(crate) fn deliver(
+    bytes: &[u8],
+    file: Option<&OsStr>,
+    input: &OsStr,
+    out: &mut dyn Write,
+) -> Result<(), Failure> {
+    match file.filter(|file| *file != "-") {
+        None => Ok(out.write_all(bytes)?),
+        Some(file) => {
+            let name = file.to_string_lossy();
+            if is_same_file(Path::new(file), Path::new(input)) {
+                return Err(Failure::sentence(format!(
+                    "{name} is the hall itself: name another file after -o, or it would be lost"
+                )));
+            }
+            write_file(file, bytes).map_err(|error| Failure::sentence(unwritten(&name, &error)))
+        }
+    }
+}
+
+fn is_same_file(one: &Path, other: &Path) -> bool {
+    let place = |path| fs::metadata(path).map(|data| (data.dev(), data.ino())).ok();
+    place(one).is_some_and(|one| Some(one) == place(other))
+}
+
+/// Writes a file and waits until it is on the disk, where a lack of room shows at last.
+fn write_file(file: &OsStr, bytes: &[u8]) -> io::Result<()> {
+    let mut opened = File::create(file)?;
+    opened.write_all(bytes)?;
+    if opened.metadata()?.is_file() {
+        opened.sync_all()?;
+    }
+    Ok(())
+}

@@ -1,0 +1,84 @@
+//! Levers, buttons and plates that are set during a run.
+
+use std::fmt::{self, Display, Formatter};
+
+use redstone::{Kind, Row};
+use redstone_text::{Error, Line, Word, position_text};
+
+use crate::MOST_TICKS;
+use crate::name::{Position, find, is_switch, kind_name};
+
+/// A lever, button or plate that is set once so many ticks are done. The figures of that tick are those after it.
+#[derive(Clone, Copy, Debug, Eq, PartialEq)]
+pub struct Switch {
+    /// The number of the tick.
+    pub tick: u32,
+    /// Where it stands.
+    pub position: Position,
+    /// Whether it is on from then.
+    pub on: bool,
+}
+
+/// A switch and the word that its position was read from.
+pub(crate) type Placed<'a> = (Switch, Word<'a>);
+
+/// The word that begins a line with a switch.
+pub(crate) const SWITCH: &str = "switch";
+
+const SETTINGS: [(&str, bool); 2] = [("on", true), ("off", false)];
+
+impl Switch {
+    /// Reads `switch 0,1,0 on`, at tick 0, or `switch tick 4 0,1,0 on`.
+    pub(crate) fn read_line(line: Line<'_>) -> Result<Placed<'_>, Error> {
+        let mut words = line.words();
+        words.expect(SWITCH)?;
+        let mut place = words.expect("a position x,y,z, or tick")?;
+        let mut tick = 0;
+        if place.text == "tick" {
+            tick = words.expect("a tick's number")?.number(0..=MOST_TICKS)?;
+            place = words.expect("a position x,y,z")?;
+        }
+        let position = place.position()?;
+        let on = words.expect("on or off")?.one_of("a setting", SETTINGS)?;
+        words.end()?;
+        Ok((Self { tick, position, on }, place))
+    }
+
+    /// Reads `4:0,1,0=on`.
+    pub(crate) fn read_word(word: Word<'_>) -> Result<Placed<'_>, Error> {
+        let form = || word.expected("a switch TICK:x,y,z=on or TICK:x,y,z=off");
+        let (tick, rest) = word.split_once(':').ok_or_else(form)?;
+        let (place, setting) = rest.split_once('=').ok_or_else(form)?;
+        let switch = Self {
+            tick: tick.number(0..=MOST_TICKS)?,
+            position: place.position()?,
+            on: setting.one_of("a setting", SETTINGS)?,
+        };
+        Ok((switch, place))
+    }
+}
+
+/// That a switch's position is that of a lever, button or plate.
+pub(crate) fn check_place((switch, word): Placed<'_>, rows: &[Row]) -> Result<Switch, Error> {
+    let kind = find(rows, switch.position).map(|row| rows[row].kind());
+    match kind {
+        Some(kind) if is_switch(kind) => Ok(switch),
+        _ => Err(not_there(word, "lever, button or plate", kind)),
+    }
+}
+
+/// The error of a position where something else stands.
+pub(crate) fn not_there(word: Word<'_>, what: &str, kind: Option<Kind>) -> Error {
+    word.expected(match kind {
+        None => format!("the position of a {what}: no row stands there"),
+        Some(kind) => format!("the position of a {what}: a {} stands there", kind_name(kind)),
+    })
+}
+
+/// As in `lever 0,1,0 on`, without the kind.
+impl Display for Switch {
+    fn fmt(&self, f: &mut Formatter<'_>) -> fmt::Result {
+        let setting = if self.on { "on" } else { "off" };
+        write!(f, "{} {setting}", position_text(self.position))
+    }
+}

@@ -1,0 +1,187 @@
+//! Generated tables: what the program shows is what `settle` and the library give.
+
+use std::env;
+use std::ffi::OsString;
+use std::path::Path;
+use std::process::Command;
+
+use differential::generate::{self, Case};
+use differential::suite::with_damaged;
+use redstone::{Columns, Device, Kind, ROW_BYTES, Row, STATE_BYTES};
+
+use hall::{Hall, Outlook, Run};
+
+use crate::support::{hall_with, run};
+
+/// Accepted tables.
+pub fn cases(number: u64) -> impl Iterator<Item = Case> {
+    (0..number).map(generate::case)
+}
+
+/// The proved program `settle`.
+fn settle() -> OsString {
+    let built = Path::new(env!("CARGO_MANIFEST_DIR")).join("../../target/bin/settle");
+    let program = env::var_os("SETTLE_BIN").unwrap_or(built.into());
+    assert!(
+        Path::new(&program).is_file(),
+        "The program `settle` is not at {}: run `rt check settle` in the repository's root first.",
+        program.display()
+    );
+    program
+}
+
+/// What `settle` writes, made of the lines of `hall csv` for tick 0 and of the first line of `hall run`.
+fn as_settle_writes(input: &[u8]) -> String {
+    let csv = hall_with(&["csv", "-", "--ticks=0"], input);
+    if csv.status != Some(0) {
+        return csv.err;
+    }
+    let shown = hall_with(&["run", "-", "--ticks=0"], input);
+    let head = shown.text().lines().next().expect("a line");
+    let (blocks, rounds) = head.split_once(", settled in ").expect("blocks and rounds");
+    let number = |text: &str| text.split(' ').find(|word| word.parse::<u32>().is_ok()).map(str::to_owned);
+    let blocks = number(blocks.rsplit(": ").next().expect("blocks")).expect("a number");
+    let mut text = format!("blocks={blocks}\nrounds={}\n", number(rounds).expect("a number"));
+    for line in csv.text().lines().skip(1) {
+        let fields: Vec<_> = line.split(',').collect();
+        text += &format!("row={},{}\n", fields[1..4].join(","), fields[5..8].join(","));
+    }
+    text
+}
+
+#[test]
+fn the_settled_figures_are_those_of_settle() {
+    let program = settle();
+    let (mut accepted, mut refused) = (0, 0);
+    for case in with_damaged(cases(350)) {
+        let input = [&case.profile[..], &case.table].concat();
+        let settled = run(&mut Command::new(&program), &input);
+        let shown = as_settle_writes(&input);
+        match settled.text().strip_prefix("refusal=") {
+            None => {
+                assert_eq!(shown, settled.text(), "{case}");
+                accepted += 1;
+            }
+            // What has no zero byte is taken for text, and refused as such.
+            Some(_) if !input.contains(&0) => assert!(shown.starts_with("hall: standard input:"), "{shown}"),
+            Some(rest) => {
+                let (number, place) = rest.split_once("\nplace=").expect("a place");
+                assert!(
+                    shown.starts_with(&format!("hall: standard input: refusal {number}, ")),
+                    "{shown}\n{case}"
+                );
+                let row = format!("row {} ", place.trim_end());
+                assert!(
+                    !matches!(number, "4" | "5") || shown.contains(&row) || shown.contains(" are both at "),
+                    "{shown}"
+                );
+                refused += 1;
+            }
+        }
+    }
+    assert!(accepted > 300 && refused > 200, "{accepted} accepted, {refused} refused");
+    println!("\nhall beside settle: {accepted} tables accepted, {refused} refused, all alike");
+}
+
+/// The lines that `hall csv` writes, made of one call of the library for each tick.
+fn as_library_gives(case: &Case, ticks: u32, switches: &[(u32, [i32; 3], bool)]) -> String {
+    let rows = case.table.len() / ROW_BYTES;
+    let mut text = String::new();
+    for tick in 0..=ticks {
+        // From the fresh state on, with as few calls as the switches allow.
+        let (mut table, mut now) = (case.table.clone(), 0);
+        let (mut state, mut columns) =
+            (vec![0; STATE_BYTES * rows], [vec![0; rows], vec![0; rows], vec![0; rows]]);
+        let lend = |columns: &mut [Vec<u8>; 3], call: &mut dyn FnMut(Columns<'_>)| {
+            let [signal, weak, strong] = columns;
+            call(Columns { signal, weak, strong });
+        };
+        lend(&mut columns, &mut |columns| {
+            redstone::fresh(&case.profile, &table, &mut state, columns).expect("an accepted table");
+        });
+        for &(at, position, on) in switches.iter().filter(|(at, ..)| *at <= tick) {
+            lend(&mut columns, &mut |columns| {
+                redstone::tick(&case.profile, &table, &mut state, now, at - now, columns).expect("accepted");
+            });
+            now = at;
+            lend(&mut columns, &mut |columns| {
+                redstone::switch(&case.profile, &mut table, &state, position, on, columns).expect("accepted");
+            });
+        }
+        lend(&mut columns, &mut |columns| {
+            redstone::tick(&case.profile, &table, &mut state, now, tick - now, columns).expect("accepted");
+        });
+        for number in 0..rows {
+            let row = Row::try_from(&case.table[ROW_BYTES * number..][..ROW_BYTES]).expect("a row");
+            let bytes = state[STATE_BYTES * number..].first_chunk().expect("a row's state");
+            Device::read(&row, bytes).expect("a valid state");
+            let [x, y, z] = row.position();
+            let [signal, weak, strong] = [0, 1, 2].map(|column: usize| columns[column][number]);
+            text += &format!("{tick},{x},{y},{z},{},{signal},{weak},{strong},", row.kind());
+            text += &format!("{},{},{},{},{}\n", bytes[0], bytes[1], bytes[2], bytes[3], bytes[8]);
+        }
+    }
+    text
+}
+
+#[test]
+fn the_ticks_are_those_of_the_library() {
+    let mut switched = 0;
+    for case in cases(150).filter(|case| case.rows() <= 200) {
+        let rows = redstone::rows(&case.table).expect("rows");
+        let is_switch = |row: &&Row| matches!(row.kind(), Kind::Lever | Kind::Button | Kind::PressurePlate);
+        let found: Vec<_> = rows.iter().filter(is_switch).take(2).collect();
+        let switches: Vec<_> =
+            found.iter().flat_map(|row| [(2, row.position(), true), (5, row.position(), false)]).collect();
+        let mut switches: Vec<_> = switches;
+        switches.sort_by_key(|(at, ..)| *at);
+        switched += usize::from(!switches.is_empty());
+        let mut words = vec!["csv".to_owned(), "-".to_owned(), "--ticks=12".to_owned()];
+        for (at, [x, y, z], on) in &switches {
+            words.push(format!("--switch={at}:{x},{y},{z}={}", if *on { "on" } else { "off" }));
+        }
+        let words: Vec<_> = words.iter().map(String::as_str).collect();
+        let done = hall_with(&words, &[&case.profile[..], &case.table].concat());
+        assert_eq!(done.status, Some(0), "{}\n{case}", done.err);
+        let lines = done.text().split_once('\n').expect("a head").1;
+        assert_eq!(lines, as_library_gives(&case, 12, &switches), "{case}");
+    }
+    assert!(switched > 20, "only {switched} tables have something to switch");
+}
+
+/// What a run says of the ticks to come holds of as many again, and of no earlier tick.
+#[test]
+fn what_repeats_goes_on_so() {
+    let (mut still, mut cycles, mut open) = (0, 0, 0);
+    let chosen = |case: &Case| case.rows() <= 200 && (case.sort == "clock" || case.seed < 150);
+    for case in cases(1500).filter(chosen) {
+        let hall = Hall::from_packed("a.bin", &case.profile, &case.table).expect("an accepted table");
+        let (run, long) = (Run::new(&hall, 40).expect("a run"), Run::new(&hall, 100).expect("a run"));
+        let (from, ticks) = match run.outlook {
+            Outlook::Still { from } => (from as usize, 1),
+            Outlook::Cycle { from, ticks } => (from as usize, ticks as usize),
+            Outlook::Open => {
+                open += 1;
+                continue;
+            }
+        };
+        let differs = (from..=100 - ticks).find(|tick| long.looks_different(*tick, tick + ticks));
+        assert_eq!(differs, None, "from {from}, {ticks} ticks\n{case}");
+        match run.outlook {
+            Outlook::Still { .. } => still += 1,
+            _ => {
+                cycles += 1;
+                // No shorter one, and something changes in it.
+                let shorter = (1..ticks).find(|ticks| {
+                    (from..=100 - ticks)
+                        .all(|tick| long.frames[tick].devices == long.frames[tick + ticks].devices)
+                });
+                assert_eq!(shorter, None, "from {from}, {ticks} ticks\n{case}");
+            }
+        }
+    }
+    assert!(still > 100 && cycles > 10, "{still} still, {cycles} cycles, {open} open");
+    println!(
+        "\nhall's outlook: {still} tables come to rest, {cycles} go on in a cycle, {open} are open after 40 ticks"
+    );
+}

@@ -1,0 +1,14 @@
+//! The program `hall`, as it is called.
+
+mod check;
+mod generated;
+mod hints;
+mod output;
+mod page;
+mod readme;
+mod refusals;
+mod samples;
+mod stored;
+mod support;
+mod text;
+mod words;

@@ -1,0 +1,180 @@
+//! What is refused, and what cannot be read.
+
+use std::fs;
+use std::os::unix::fs::PermissionsExt;
+
+use redstone::{BENCH_PROFILE, Circuit, Kind, ROW_BYTES, Row};
+
+use crate::support::{file, folder, hall, hall_with};
+
+/// A packed table, changed by a closure.
+fn packed(change: impl FnOnce(&mut Vec<u8>)) -> Vec<u8> {
+    let rows = [Row::new(Kind::Solid, [0, 0, 0]), Row::new(Kind::Lever, [0, 1, 0])];
+    let mut bytes = [&BENCH_PROFILE[..], &redstone::table(rows)].concat();
+    change(&mut bytes);
+    bytes
+}
+
+/// Asserts that every command gives this sentence of an input.
+fn assert_refused(input: &[u8], place: &str, sentence: &str) {
+    for command in ["run", "levels", "csv", "pack", "unpack"] {
+        let done = hall_with(&[command, "-"], input);
+        assert_eq!((done.status, done.text()), (Some(2), ""), "{command}");
+        assert_eq!(done.err, format!("hall: standard input:{place} {sentence}.\n"), "{command}");
+    }
+    let done = hall_with(&["check", "-"], input);
+    assert_eq!((done.status, done.err.as_str()), (Some(2), ""));
+    assert_eq!(
+        done.text(),
+        format!(
+            "standard input: REFUSED\n    standard input:{place} {sentence}\n\
+             1 file: 0 ok, 0 DIFFERS, 1 REFUSED; 0 expectations, 0 not met\n"
+        )
+    );
+    let done = hall_with(&["report", "-"], input);
+    assert_eq!(done.status, Some(2));
+    assert!(done.text().contains("<p class=\"verdict refused\">REFUSED</p>"), "{}", done.text());
+    assert_eq!(done.err, format!("hall: standard input:{place} {sentence}.\n"));
+}
+
+const PACKED: &str = " (it was taken for the packed form, since it has a zero byte)";
+
+/// What the library says of a packed table.
+fn refusal(bytes: &[u8]) -> String {
+    let (profile, table) = bytes.split_at(bytes.len().min(13));
+    Circuit::from_table(profile, table).expect_err("a table that is refused").to_string()
+}
+
+#[test]
+fn each_refusal_of_the_packed_form() {
+    for (bytes, number) in [
+        (packed(|bytes| bytes.truncate(12)), "refusal 1, profile: "),
+        (packed(|bytes| bytes[0] = 1), "refusal 1, profile: "),
+        (packed(|bytes| bytes[1] = 32), "refusal 1, profile: "),
+        (packed(|bytes| bytes.truncate(50)), "refusal 2, ragged: "),
+        (packed(|bytes| bytes[13 + 13] = 7), "refusal 4, bad row: row 0 at 0,0,0: "),
+        (packed(|bytes| bytes[13..].rotate_left(ROW_BYTES)), "refusal 5, misplaced: row 1 at 0,0,0 "),
+    ] {
+        let sentence = refusal(&bytes);
+        assert!(sentence.starts_with(number), "{sentence}");
+        assert_refused(&bytes, "", &format!("{sentence}{PACKED}"));
+    }
+}
+
+/// As the program `settle` has it, before all else.
+#[test]
+fn more_bytes_than_a_table_may_have_are_refusal_3() {
+    let sentence = "refusal 3, crowded: there are more than 32781 bytes, 13 of profile and 1024 rows of 32";
+    assert_refused(&vec![0; 32_782], "", sentence);
+    assert_refused(&vec![0; 1_000_000], "", sentence);
+    let zero = hall(&["run", "/dev/zero"]);
+    assert_eq!((zero.status, zero.err), (Some(2), format!("hall: /dev/zero: {sentence}.\n")));
+}
+
+#[test]
+fn each_refusal_of_the_text_form() {
+    let solid = |x| Row::new(Kind::Solid, [x, 0, 0]);
+    let sentence =
+        |profile: &[u8], rows: &[Row]| refusal(&[profile, &redstone::table(rows.iter().copied())].concat());
+    let text: String = (0..1025).map(|x| format!("{x},0,0 Solid\n")).collect();
+    let crowded = sentence(&BENCH_PROFILE, &(0..1025).map(solid).collect::<Vec<_>>());
+    let far = sentence(&BENCH_PROFILE, &[solid(0), solid(1_000_001)]);
+    let profile = sentence(&[0, 32, 0, 0, 0, 0, 0, 0, 0, 0, 0, 0, 0], &[solid(0)]);
+    for (sentence, number) in [(&crowded, 3), (&far, 4), (&profile, 1)] {
+        assert!(sentence.starts_with(&format!("refusal {number}, ")), "{sentence}");
+    }
+    assert_refused(text.as_bytes(), "", &crowded);
+    assert_refused(b"0,0,0 Solid\n\n1000001,0,0 Solid\n", "3:", &far);
+    assert_refused(b"profile Solid=32\n0,0,0 Solid\n", "", &profile);
+    assert_refused(
+        b"0,0,0 Solid\n0,0,0 Lever\n",
+        "2:1:",
+        "found \"0,0,0\" again, expected another position than line 1 has",
+    );
+    assert_refused(b"", "1:1:", "found the end of the text, expected a row, or blocks=0");
+    assert_refused(
+        b"blocks=2\n0,0,0 Solid\n",
+        "1:8:",
+        "found \"2\", expected 1, the number of rows that there are",
+    );
+    assert_refused(
+        b"0,0,0 Solid\n# caf\xe9\n",
+        "2:",
+        "the text is not UTF-8, nor is it the packed form: save it as UTF-8",
+    );
+    let long = "#".repeat(5 << 20);
+    assert_refused(long.as_bytes(), "", "the text has more than 4194304 bytes: a hall has at most 1024 rows");
+}
+
+#[test]
+fn a_mark_before_the_text_and_line_ends_of_two_signs_are_read() {
+    let done = hall_with(&["unpack", "-"], "\u{feff}# caf\u{e9}\r\n0,0,0 Solid\r\n".as_bytes());
+    assert_eq!((done.status, done.text()), (Some(0), "blocks=1\n0,0,0 Solid\n"));
+}
+
+#[test]
+fn a_hall_without_rows_is_shown() {
+    for command in ["run", "levels", "check", "csv", "report", "unpack"] {
+        let done = hall_with(&[command, "-"], b"blocks=0\n");
+        assert_eq!((done.status, done.err.as_str()), (Some(0), ""), "{command}");
+    }
+}
+
+#[test]
+fn another_profile_is_taken_for_the_file() {
+    // With a profile in which nothing takes power, the lever's block has none.
+    let text = file("profile", "none.txt", "# Nothing takes power.\nprofile\n");
+    let bytes = file("profile_bytes", "none.bin", [0; 13]);
+    for name in [&text, &bytes] {
+        let done =
+            hall(&["csv", "halls/vault-door.hall", "--ticks=0", "--switch=0:0,1,0=on", "--profile", name]);
+        assert_eq!(done.status, Some(0), "{}", done.err);
+        assert!(done.text().contains("\n0,0,0,0,Solid,0,0,0,"), "{}", done.text());
+    }
+    let bench = hall(&["csv", "halls/vault-door.hall", "--ticks=0", "--switch=0:0,1,0=on"]);
+    assert!(bench.text().contains("\n0,0,0,0,Solid,0,0,15,"), "{}", bench.text());
+    for (name, content, sentence) in [
+        ("rows.txt", "0,0,0 Solid\n", ":1:1: found \"0,0,0\", expected the line of a profile: profile"),
+        ("kind.txt", "profile Slid=3\n", ":1:9: found \"Slid\", expected a kind: did you mean Solid?"),
+        ("empty.txt", "", ": there is no profile in it: write a line as `profile Solid=31 Piston=1`"),
+    ] {
+        let profile = file("profile_wrong", name, content);
+        let done = hall(&["run", "halls/vault-door.hall", "--profile", &profile]);
+        let end = if sentence.ends_with('?') { "" } else { "." };
+        assert_eq!((done.status, done.err), (Some(2), format!("hall: {profile}{sentence}{end}\n")));
+    }
+    let short = file("profile_short", "short.bin", [0; 12]);
+    let done = hall(&["run", "halls/vault-door.hall", "--profile", &short]);
+    assert!(done.err.starts_with("hall: halls/vault-door.hall: refusal 1, profile: "), "{}", done.err);
+}
+
+#[test]
+fn a_folder_a_missing_file_and_a_locked_one() {
+    let done = hall(&["run", "halls"]);
+    assert_eq!(
+        (done.status, done.err.as_str()),
+        (Some(2), "hall: halls: this is a folder: name files, as in halls/*.hall.\n")
+    );
+    let done = hall(&["check", "halls", "halls/none.hall", "halls/fading-line.hall"]);
+    assert_eq!(done.status, Some(2));
+    assert_eq!(
+        done.text(),
+        "halls: REFUSED\n    halls: this is a folder: name files, as in halls/*.hall\n\
+         halls/none.hall: REFUSED\n    halls/none.hall: there is no such file: look at its name, or begin one with \
+         `hall new`\n\
+         halls/fading-line.hall: ok, 6 expectations\n\
+         3 files: 1 ok, 0 DIFFERS, 2 REFUSED; 6 expectations, 0 not met\n"
+    );
+    let locked = folder("locked").join("a.hall");
+    fs::write(&locked, "0,0,0 Solid\n").expect("a file");
+    fs::set_permissions(&locked, fs::Permissions::from_mode(0o000)).expect("a mode");
+    // Who may read all files may read this one.
+    if fs::read(&locked).is_err() {
+        let done = hall(&["run", locked.to_str().expect("UTF-8")]);
+        assert!(
+            done.status == Some(2) && done.err.contains("it may not be read: see who may"),
+            "{}",
+            done.err
+        );
+    }
+}

@@ -1,0 +1,95 @@
+//! Words that no command knows, and words that are missing.
+
+use crate::support::hall;
+
+const LAMP: &str = "halls/repeater-lock.hall";
+
+#[test]
+fn a_sentence_says_what_to_do() {
+    for (words, sentence) in [
+        (&["chekc", "a"][..], "there is no command `chekc`: did you mean `hall check`?"),
+        (&["fly"], "there is no command `fly`: the nearest is `hall new`, and `hall --help` lists all."),
+        (&["help", "rnu"], "there is no command `rnu`: did you mean `hall run`?"),
+        (&["run"], "no hall is named: give a file, or - for standard input."),
+        (&["run", LAMP, "other"], "other is one word too many: give one name."),
+        (&["run", LAMP, "--tiks", "3"], "--tiks is not an option of `hall run`: did you mean --ticks?"),
+        (&["run", LAMP, "--fast"], "--fast is not an option of `hall run`: see `hall run --help`."),
+        (&["new", "--fast"], "--fast is not an option of `hall new`, which has none."),
+        (&["run", LAMP, "--ticks"], "--ticks has no value: give --ticks N."),
+        (&["run", LAMP, "--ticks", "x"], "--ticks: found \"x\", expected a whole number from 0 to 10000."),
+        (&["run", LAMP, "--ticks=3", "--ticks=4"], "--ticks is given twice: give it once."),
+        (
+            &["levels", LAMP, "--tick", "-1"],
+            "--tick: found \"-1\", expected a whole number from 0 to 1000000.",
+        ),
+        (&["check"], "no file is named: give some, or - for standard input."),
+        (&["check", "-", "-"], "standard input is named twice: it can be read once."),
+        (
+            &["run", LAMP, "--switch", "4"],
+            "--switch 4: found \"4\", expected a switch TICK:x,y,z=on or TICK:x,y,z=off.",
+        ),
+        (
+            &["run", LAMP, "--switch", "4:0,1,0=onn"],
+            "--switch 4:0,1,0=onn: found \"onn\", expected a setting: did you mean on?",
+        ),
+        (
+            &["run", LAMP, "--switch", "4:2,1,0=on"],
+            "--switch 4:2,1,0=on: found \"2,1,0\", expected the position of a lever, button or plate: a lamp stands \
+             there.",
+        ),
+        (
+            &["run", LAMP, "--switch", "4:9,9,9=on"],
+            "--switch 4:9,9,9=on: found \"9,9,9\", expected the position of a lever, button or plate: no row stands \
+             there.",
+        ),
+        (
+            &["report", LAMP, "-o", LAMP],
+            "halls/repeater-lock.hall is the hall itself: name another file after -o, or it would be lost.",
+        ),
+        (
+            &["pack", LAMP, "-o", "halls/none/a.bin"],
+            "halls/none/a.bin could not be written: No such file or directory (os error 2).",
+        ),
+        (&["new", "halls/none/a"], "halls/none/a.hall could not be written: there is no such folder."),
+        (&["new", ".."], ".. is no name for a file."),
+        (&["new"], "no name is given: give one, as in `hall new door`."),
+        (
+            &["run", "--", "--ticks"],
+            "--ticks: there is no such file: look at its name, or begin one with `hall new`.",
+        ),
+    ] {
+        let done = hall(words);
+        assert_eq!((done.status, done.text()), (Some(2), ""), "{words:?}");
+        assert_eq!(done.err, format!("hall: {sentence}\n"), "{words:?}");
+    }
+}
+
+#[test]
+fn help_is_given_wherever_it_is_asked_for() {
+    let all = hall(&["--help"]);
+    assert_eq!(all.status, Some(0));
+    for words in [&[][..], &["-h"], &["help"]] {
+        assert_eq!(hall(words).out, all.out, "{words:?}");
+    }
+    let run = hall(&["run", "--help"]);
+    for words in [&["help", "run"][..], &["run", "-h"], &["run", "none", "--fast", "--help"]] {
+        assert_eq!(hall(words).out, run.out, "{words:?}");
+    }
+}
+
+#[test]
+fn options_may_stand_anywhere_and_with_an_equals_sign() {
+    let one = hall(&["run", LAMP, "--ticks", "5", "--switch", "1:0,1,0=on"]);
+    assert_eq!(one.status, Some(0));
+    assert!(one.text().contains("tick 1: lever 0,1,0 is switched on\n"));
+    assert_eq!(hall(&["run", "--switch=1:0,1,0=on", "--ticks=5", LAMP]).out, one.out);
+}
+
+/// Of a switch after the last tick it is said that it is not shown.
+#[test]
+fn a_switch_past_the_last_tick_is_told() {
+    let done = hall(&["run", LAMP, "--ticks", "5"]);
+    let text = done.text();
+    assert!(text.contains("From tick 4 on nothing changes, until the switch at tick 6.\n"), "{text}");
+    assert!(text.contains("Not shown: tick 6 switch 1,1,2 on; ask for more with --ticks.\n"), "{text}");
+}
