@@ -7,6 +7,7 @@ use lib.ListN.{getD, take, drop, replicate}
 use lib.Dec.{T}
 use lib.IntN.{pos, negsuc}
 use Rattle.columns.specs.Column.{Bytes, Column, same}
+use Rattle.columns.specs.Ascii.{ascii}
 use Rattle.network.specs.Network.{State}
 use Rattle.blocks.specs.Kind.{Solid, RedstoneWire, RedstoneTorch, Repeater, Comparator, Lever, RedstoneBlock}
 use Rattle.blocks.specs.Profile.{benchProfile}
@@ -20,7 +21,6 @@ use Rattle.states.specs.Row.{deviceOf, togglesOf, candidateOf, delayOf, bitsSet
 use Rattle.updates.specs.State.{sixteen, freshDevices, freshState}
 use Rattle.updates.specs.Tick.{tick, ticks}
 use Rattle.switching.specs.Switch.{switched}
-use Rattle.text.specs.Text.{ascii}
 use Rattle.report.specs.Text.{settleText}
 use Rattle.cases.proofs.Computing.{computing}
 use Rattle.cases.proofs.Build as Build

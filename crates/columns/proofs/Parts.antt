@@ -2,7 +2,7 @@
 -- Assumes nothing.
 use mathlib.Core.Path.{_≡_, refl, ap, ap₂, sym, _∙_}
 use mathlib.Core.List.{List, [], _∷_, _++_, append-assoc, append-nil}
-use Prim.Native.Nat.{ℕ, zero, suc, _+_, _*_, _-_, _≤_, _<_}
+use Prim.Native.Nat.{ℕ, zero, suc, _+_, _*_, _-_, _≤_, _<_, zero-le}
 use native.Mathlib.Nat.{zero-mul, suc-mul, add-zero, not-suc-le-zero, mul-le-mul-right, zero-add}
 use native.Mathlib.Numerals.{add-one}
 use native.Mathlib.Omega.{arith}
@@ -41,6 +41,19 @@ module _ (w : ℕ) (f : ℕ → List ℕ) where
   -- as long as its rows together
   pub length-concatRows : (n : ℕ) → ((k : ℕ) → k < n → length (f k) ≡ w) → length (concatRows n f) ≡ n * w
   length-concatRows n h = length-from n 0 (λ k l. rw (zero-add k) (h k l))
+
+  short-from : (n i : ℕ) → ((k : ℕ) → k < n → length (f (i + k)) ≤ w) → length (concatRowsFrom i n f) ≤ n * w
+  unfolding concatRowsFrom
+  short-from zero i h = zero-le
+  short-from (suc n) i h =
+      let first : length (f i) ≤ w = rw (add-zero i) at (h 0 (omega arith)) in
+      let rest : length (concatRowsFrom (suc i) n f) ≤ n * w =
+      short-from n (suc i) (λ k l. let e : suc i + k ≡ i + suc k = omega arith in rw e (h (suc k) (omega arith))) in
+      rw (length-append, suc-mul) (omega arith)
+
+  -- no longer than rows of w would be, where none is longer
+  pub concatRows-short : (n : ℕ) → ((k : ℕ) → k < n → length (f k) ≤ w) → length (concatRows n f) ≤ n * w
+  concatRows-short n h = short-from n 0 (λ k l. rw (zero-add k) (h k l))
 
   part-from : (n i : ℕ) → ((k : ℕ) → k < n → length (f (i + k)) ≡ w) → (j : ℕ) → j < n → part w (concatRowsFrom i n f) j ≡ f (i + j)
   unfolding concatRowsFrom

@@ -1,4 +1,5 @@
--- Lists as columns and rows, and searches by index.
+-- Lists as columns and rows, searches by index, and words as bytes.
 pub mod Column
 pub mod First
 pub mod Signal
+pub mod Ascii

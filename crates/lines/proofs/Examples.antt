@@ -2,8 +2,9 @@
 -- Assumes nothing.
 use mathlib.Core.Path.{_≡_, refl}
 use lib.IntN.{pos, negsuc}
+use Rattle.columns.specs.Ascii.{ascii}
 use Rattle.places.specs.Places.{cell}
-use Rattle.text.specs.Text.{ascii, decimalWithin, decimalOf, signedText, lineOf}
+use Rattle.text.specs.Text.{decimalWithin, decimalOf, signedText, lineOf}
 use Rattle.lines.specs.Lines.{rowText, refusalText}
 
 row-line : rowText (cell (negsuc 999999) (pos 0) (negsuc 0)) 200 15 0 ≡ ascii "row=-1000000,0,-1,200,15,0\n"

@@ -4,9 +4,9 @@ use Prim.Native.Nat.{ℕ, _≤_, _<_}
 use native.Mathlib.Omega.{arith}
 use lib.ListN.{length, length-append}
 use lib.Signed.{natAbs-le}
+use Rattle.columns.specs.Ascii.{ascii}
 use Rattle.places.specs.declared.Pos.{Pos}
 use Rattle.places.proofs.Steps.{InRange}
-use Rattle.text.specs.Text.{ascii}
 use Rattle.text.proofs.Decimal.{decimal-few}
 use Rattle.text.proofs.Lengths.{signed-few, line-few}
 use Rattle.lines.specs.Lines.{rowText, refusalText}

@@ -3,9 +3,10 @@
 use mathlib.Core.List.{_++_}
 use Prim.Native.Nat.{ℕ}
 use Rattle.columns.specs.Column.{Bytes, Column, row, concatRows}
+use Rattle.columns.specs.Ascii.{ascii}
 use Rattle.places.specs.declared.Pos.{Pos}
 use Rattle.world.specs.Rows.{rows, posOf}
-use Rattle.text.specs.Text.{ascii, decimalOf, signedText, lineOf}
+use Rattle.text.specs.Text.{decimalOf, signedText, lineOf}
 
 -- "per row `row=` with x, y, z, signal, weak, strong": up to the position, and from there on
 abbrev pub placeText : Pos → Bytes

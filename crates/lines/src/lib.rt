@@ -1,12 +1,9 @@
 // The lines that the program `settle` writes, put into a buffer at a place. Each function answers the place after them.
 use places::Pos;
 use world::row;
-ghost use mathlib.Core.Path.{_≡_};
 ghost use Prim.Native.Nat.{_+_, _*_, _≤_};
 ghost use lib.ListN.{length};
 ghost use Rattle.columns.specs.Column.{concatRows};
-ghost use Rattle.columns.specs.Column.{row as Column·row};
-ghost use Rattle.world.specs.Rows.{posOf};
 ghost use Rattle.world.specs.Rows.{rows as Rows·rows};
 ghost use Rattle.text.specs.Put.{Puts};
 ghost use Rattle.lines.specs.Lines.{placeText, levelsText, rowOf, settledText, refusalText};
@@ -29,9 +26,9 @@ fn levels(out: &mut [u8], at: usize, signal: u8, weak: u8, strong: u8) -> usize
     ensures { λ r. ⌜ Puts (levelsText signal weak strong) at (now (out .entry)) (now (out .exit)) r ⌝ }
     ensures few { λ r. ⌜ r ≤ at + 12 ⌝ }
 {
-    let second = text::level(out, at, signal, b',');
-    let third = text::level(out, second, weak, b',');
-    text::level(out, third, strong, b'\n')
+    let second = text::small_number(out, at, signal, b',');
+    let third = text::small_number(out, second, weak, b',');
+    text::small_number(out, third, strong, b'\n')
 }
 
 // The line of row i of a table with its three columns.

@@ -5,8 +5,8 @@ use Prim.Native.Nat.{ℕ, _-_}
 use lib.ListN.{length, drop}
 use lib.Dec.{leb}
 use Rattle.columns.specs.Column.{Bytes, same}
+use Rattle.columns.specs.Ascii.{ascii}
 use Rattle.world.specs.Shapes.{Plain, BottomSlab, TopSlab, DoubleSlab, BottomStairs, TopStairs, Glass}
-use Rattle.text.specs.Text.{ascii}
 
 abbrev pub endsWith : Bytes → Bytes → Bool
 endsWith end s = leb (length end) (length s) && same (drop (length s - length end) s) end

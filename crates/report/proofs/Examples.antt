@@ -4,7 +4,8 @@ use mathlib.Core.Path.{_≡_}
 use Prim.Native.Nat.{_≤_, _<_}
 use lib.ListN.{length}
 use Rattle.columns.specs.Column.{Bytes}
-use Rattle.text.specs.Text.{ascii, decimalWithin, decimalOf, lineOf}
+use Rattle.columns.specs.Ascii.{ascii}
+use Rattle.text.specs.Text.{decimalWithin, decimalOf, lineOf}
 use Rattle.lines.specs.Lines.{refusalText}
 use Rattle.report.specs.Text.{settleText}
 use Rattle.report.proofs.Run.{crowded-text, short-text}

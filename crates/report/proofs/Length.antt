@@ -3,7 +3,7 @@
 use mathlib.Core.Path.{_≡_, refl}
 use mathlib.Core.Bool.{Bool, true, false, cond}
 use mathlib.Core.Logic.{by-cases}
-use Prim.Native.Nat.{ℕ, _+_, _*_, _-_, _%_, _≤_, _<_, zero-le}
+use Prim.Native.Nat.{ℕ, _+_, _*_, _-_, _%_, _≤_, zero-le}
 use native.Mathlib.Decide.{decLt}
 use native.Mathlib.Omega.{arith}
 use lib.ListN.{length, getD, length-append, List·getD-eq-default}
@@ -14,8 +14,10 @@ use Rattle.columns.specs.declared.Found.{Found}
 use Rattle.columns.specs.declared.Found.the-variants.{At, Nothing}
 use Rattle.columns.specs.Column.{Bytes, row, tabulate}
 use Rattle.columns.specs.First.{firstFrom}
+use Rattle.columns.specs.Ascii.{ascii}
 use Rattle.columns.proofs.Columns.{length-tabulate, row-tabulate}
 use Rattle.columns.proofs.First.{first-at}
+use Rattle.columns.proofs.Parts.{concatRows-short}
 use Rattle.blocks.specs.Kind.{RedstoneTorch, Repeater, Comparator}
 use Rattle.world.specs.Rows.{rows, byteOf, posOf, kindOf, poweredOf, isPowered}
 use Rattle.refusals.specs.declared.Checked.{Checked}
@@ -27,9 +29,8 @@ use Rattle.electrical.specs.Answer.{roundsOf, settled}
 use Rattle.electrical.proofs.Demand.{rounds-range, settled-bounded}
 use Rattle.fresh.specs.Fresh.{freshDevice}
 use Rattle.updates.specs.State.{freshDevices}
-use Rattle.text.specs.Text.{ascii}
-use Rattle.text.proofs.Lengths.{line-few, concatRows-few}
-use Rattle.lines.specs.Lines.{rowOf, refusalText, settledText}
+use Rattle.text.proofs.Lengths.{line-few}
+use Rattle.lines.specs.Lines.{rowOf, settledText}
 use Rattle.lines.proofs.Lengths.{row-few, refusal-few}
 use Rattle.report.specs.Text.{profileOf, tableOf, textOf, runText, checkRun, settleText, room}
 use Rattle.report.proofs.Run.{run-accepted, run-refused, crowded-text, whole-text}
@@ -65,7 +66,7 @@ module _ (t : Bytes) (bytes : (i : ℕ) → getD t i 0 ≤ 255) where
       let s = settled p t d in
       let table = accepted-input p t h .1 in
       let level = settled-bounded p t d 255 (omega arith) devices-byte in
-      let lines = concatRows-few 43 (rowOf t (s .signal) (s .weak) (s .strong)) (rows t)
+      let lines = concatRows-short 43 (rowOf t (s .signal) (s .weak) (s .strong)) (rows t)
       (λ i l. row-few (posOf t i) _ _ _ (in-range t table i l) (level .signal i) (level .weak i) (level .strong i)) in
       rw (length-append, length-append)
       (omega (arith, lines, table .few, line-few (ascii "blocks=") (rows t) 3 (omega (arith, table .few)), line-few (ascii "rounds=") (roundsOf p t d) 1 (omega (arith, rounds-range p t d))))

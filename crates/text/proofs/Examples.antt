@@ -1,8 +1,9 @@
 -- Worked examples of the text, computed: numbers and lines.
 -- Assumes nothing.
 use mathlib.Core.Path.{_≡_, refl}
-use lib.IntN.{pos, negsuc}
-use Rattle.text.specs.Text.{ascii, decimalWithin, decimalOf, signedText, lineOf}
+use lib.IntN.{negsuc}
+use Rattle.columns.specs.Ascii.{ascii}
+use Rattle.text.specs.Text.{decimalWithin, decimalOf, signedText, lineOf}
 
 largest : decimalOf 18446744073709551615 ≡ ascii "18446744073709551615"
 unfolding decimalOf decimalWithin

@@ -12,7 +12,8 @@ use lib.Signed.{ltZ, nonNeg}
 use mir.Syntax.{w32, w64}
 use mir.Val.{SFits, Fits}
 use borrow.Author.Tests.{ltb-true}
-use Rattle.text.specs.Text.{ascii, signText}
+use Rattle.columns.specs.Ascii.{ascii}
+use Rattle.text.specs.Text.{signText}
 
 -- a number below 0, and what is left of 0 without it
 pub record Below (x : ℤ) : Type 0 where

@@ -3,16 +3,10 @@
 use mathlib.Core.Bool.{cond}
 use mathlib.Core.List.{[], _∷_, _++_}
 use Prim.Native.Nat.{ℕ, zero, suc, _+_, _/_, _%_}
-use Prim.Native.Char.{code}
-use Prim.Native.String.{String, [] as none, _∷_ as _then_}
 use lib.Dec.{ltb}
 use lib.IntN.{ℤ, pos, negsuc, natAbs}
 use Rattle.columns.specs.Column.{Bytes}
-
--- the bytes of a text in ASCII
-abbrev pub ascii : String → Bytes
-ascii none = []
-ascii (c then s) = code c ∷ ascii s
+use Rattle.columns.specs.Ascii.{ascii}
 
 -- ---- numbers
 

@@ -2,18 +2,19 @@
 
 use std::fs::{self, File};
 use std::os::unix::fs::PermissionsExt;
-use std::path::{Path, PathBuf};
+use std::path::PathBuf;
 use std::time::{Duration, SystemTime};
+use std::{env, process};
 
-/// A repository with two crates of the library and one that is not of it.
+/// A repository with two crates of the library and one that is not of it. It stands outside this one, where `rt` would
+/// miss its crates in crates.txt, and goes with the value.
 pub struct Repository {
     pub root: PathBuf,
 }
 
 impl Repository {
     pub fn new(name: &str) -> Self {
-        let root = Path::new(env!("OUT_DIR")).join("repositories").join(name);
-        let _ = fs::remove_dir_all(&root);
+        let root = env::temp_dir().join(format!("redstone-{}-{name}", process::id()));
         let repository = Self { root };
         repository.write("crates.txt", "# The library.\nworld:\nredstone: world\nbook: redstone\n");
         for name in ["world", "redstone", "book"] {
@@ -59,5 +60,11 @@ impl Repository {
     /// Where programs are looked for: `rt` here first.
     pub fn search_path(&self) -> String {
         format!("{}:/usr/bin:/bin", self.path("bin").display())
+    }
+}
+
+impl Drop for Repository {
+    fn drop(&mut self) {
+        let _ = fs::remove_dir_all(&self.root);
     }
 }

@@ -1,12 +1,12 @@
--- `text::level` meets its contract: a byte has at most three digits. Assumes nothing.
+-- `text::small_number` meets its contract: a byte has at most three digits. Assumes nothing.
 use Prim.Native.Nat.{_≤_}
 use native.Mathlib.Omega.{arith}
 use lib.ListN.{length, length-append}
 use borrow.Author.Needs.{needs}
 use Rattle.text.specs.Text.{decimalOf}
 use Rattle.text.proofs.Decimal.{decimal-few}
-use Rattle.text.proofs.level.Statement.{statement}
-use Rattle.text.proofs.level.Tie as tie
+use Rattle.text.proofs.small_number.Statement.{statement}
+use Rattle.text.proofs.small_number.Tie as tie
 
 few : (c : tie.Start) → length (decimalOf (c .args .n)) ≤ 3
 few c = decimal-few (c .args .n) 2 (omega (arith, c .fits .n))
@@ -22,5 +22,5 @@ returns c =
     let p = c .before .before .digits-then .ensures in
     (p, omega (arith, simp length-append at (p .end), few (c .before .before .before .before .before)))
 
-pub level-spec : {M : Type 1} → statement M
-level-spec = tie.close (tie.spec digits-then-requires same-length returns)
+pub small-number-spec : {M : Type 1} → statement M
+small-number-spec = tie.close (tie.spec digits-then-requires same-length returns)
