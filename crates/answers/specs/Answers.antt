@@ -10,7 +10,7 @@ use Rattle.places.specs.declared.Pos.{Pos}
 use Rattle.places.specs.Places.{samePos, offset}
 use Rattle.world.specs.Rows.{rows}
 use Rattle.world.specs.Find.{find, kindAt}
-use Rattle.world.specs.Traits.{traits}
+use Rattle.traits.specs.Traits.{traits}
 use Rattle.names.specs.Names.{shapeOfName}
 use Rattle.refusals.specs.Check.{answerOf, written}
 use Rattle.supports.specs.Supports.{supportIssues, checkSupports}

@@ -20,8 +20,8 @@ use Rattle.supports.proofs.Answers.{listed-tells}
 use Rattle.switching.specs.Switch.{switched}
 use Rattle.redraw.specs.Redraw.{Redraws}
 use Rattle.redraw.proofs.Answers.{redraw-tells}
-use Rattle.electrical.specs.Emitted.{emitted}
-use Rattle.electrical.specs.Edges.{networkOf}
+use Rattle.emitted.specs.Emitted.{emitted}
+use Rattle.edges.specs.Edges.{networkOf}
 use Rattle.electrical.specs.Answer.{checkSettle, SettledTo, Unchanged}
 use Rattle.electrical.specs.Join.{largerOf, Call, JoinedCalls}
 use Rattle.electrical.proofs.Demand.{settle-tells, written-join, never-answers-8, settles-from-17, others-break}

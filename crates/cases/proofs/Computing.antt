@@ -9,16 +9,16 @@ use Rattle.places.specs.Signed.{signed32, signed8, clamp32, satAdd}
 use Rattle.places.specs.Places.{samePos, before, opposite, step, horizontalOffset, beside, adjacent}
 use Rattle.world.specs.Rows.{posOf, supportOf, armEntry, storedArm}
 use Rattle.world.specs.Find.{find, kindAt}
-use Rattle.world.specs.Traits.{plain, ofShape, traits, traitsAt}
+use Rattle.traits.specs.Traits.{plain, ofShape, traits, traitsAt}
 use Rattle.layout.specs.Good.{goodProfile, goodPlace, goodRow}
 use Rattle.refusals.specs.Check.{checkRows, checkTable, checkInput}
 use Rattle.supports.specs.Supports.{isSupported, lacksSupport, supportIssues, checkSupports}
 use Rattle.connectivity.specs.Ports.{ahead, outputOf, inputOf, across, sidesOf}
-use Rattle.wire.specs.Arms.{connects, componentConnects, joins, rises, drops, inferPast, inferWireConnection, armOf, hasArm}
+use Rattle.arms.specs.Arms.{connects, componentConnects, joins, rises, drops, inferPast, inferWireConnection, armOf, hasArm}
 use Rattle.wire.specs.Transfer.{fitsHorizontal, fitsRise, fitsFall, fits, ruleAlong, firstRule, transferBy, dustTransfer, transmitsBy}
 use Rattle.redraw.specs.Redraw.{entryOf, entriesOf, withOpposite, drawn, redrawnRow, updateWireShapes}
-use Rattle.electrical.specs.Emitted.{goodDevice, checkDevices, switchLevel, emittedLevel, emitted}
-use Rattle.electrical.specs.Edges.{outputsTo, isSupportOf, isCharged, emittedToStrong, strongToWeak, armTo, alongArm, touches, feeds, dustToWeakBy, emittedToDustBy, strongToDustBy, networkOf}
+use Rattle.emitted.specs.Emitted.{goodDevice, checkDevices, switchLevel, emittedLevel, emitted}
+use Rattle.edges.specs.Edges.{outputsTo, isSupportOf, isCharged, emittedToStrong, strongToWeak, armTo, alongArm, touches, feeds, dustToWeakBy, emittedToDustBy, strongToDustBy, networkOf}
 use Rattle.electrical.specs.Answer.{roundsOf, settled, checkCall, checkSettle}
 use Rattle.states.specs.Row.{delayOf, bitsSet, isCandidate, goodQueue, goodLamp, goodTorch, goodState}
 use Rattle.fresh.specs.Fresh.{freshDevice, freshQueue, freshLamp, freshRow}

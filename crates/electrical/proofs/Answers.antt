@@ -20,8 +20,8 @@ use Rattle.refusals.proofs.Passed.{passed-both, passed-unless}
 use Rattle.refusals.proofs.Accepted.{accepted-input}
 use Rattle.refusals.proofs.Gives.{or-gives, also-gives, wider-gives, input-gives, values-give}
 use Rattle.refusals.proofs.Tells.{tells}
-use Rattle.electrical.specs.Emitted.{isBadDevice, checkDevices, emitted}
-use Rattle.electrical.specs.Edges.{networkOf}
+use Rattle.emitted.specs.Emitted.{isBadDevice, checkDevices, emitted}
+use Rattle.edges.specs.Edges.{networkOf}
 use Rattle.electrical.specs.Answer.{roundsOf, settled, goodColumns, checkCall, checkSettle, ofCall, ofSettle, Passed, Columns, SettledTo, Unchanged}
 
 -- ---- where settle is not refused

@@ -15,20 +15,20 @@ use Rattle.network.specs.Compare.{Larger, AtMost, Within, AtEveryRow₂, AtEver
 use Rattle.network.specs.Demand as Network
 use Rattle.blocks.specs.Kind.{isDust}
 use Rattle.world.specs.Rows.{rows, kindOf}
-use Rattle.world.specs.Traits.{traits, conducts}
+use Rattle.traits.specs.Traits.{traits, conducts}
 use Rattle.refusals.specs.declared.Checked.{Checked}
 use Rattle.refusals.specs.declared.Checked.the-variants.{Accepted, Refused}
 use Rattle.refusals.specs.Check.{orElse, IsAccepted}
 use Rattle.refusals.specs.Answers.{Gives, Tells}
 use Rattle.refusals.proofs.Gives.{not-given}
 use Rattle.refusals.proofs.Tells.{told-accepted, accepted-told, never-told}
-use Rattle.wire.specs.Arms.{armOf}
-use Rattle.electrical.specs.Emitted.{IsValid, emitted}
-use Rattle.electrical.specs.Edges.{networkOf}
+use Rattle.arms.specs.Arms.{armOf}
+use Rattle.emitted.specs.Emitted.{IsValid, emitted}
+use Rattle.edges.specs.Edges.{networkOf}
 use Rattle.electrical.specs.Answer.{roundsOf, settled, goodColumns, checkCall, checkSettle, ofCall, ofSettle, Passed, Settles, SettledTo, Unchanged}
 use Rattle.electrical.specs.Join.{largerOf, Joined, Call, JoinedCalls}
 use Rattle.electrical.proofs.Emitted.{emitted-larger, emitted-byte}
-use Rattle.electrical.proofs.Networks.{power-on-map}
+use Rattle.edges.proofs.Networks.{power-on-map}
 use Rattle.electrical.proofs.Devices.{valid-devices, devices-valid, is-larger, larger-devices}
 use Rattle.electrical.proofs.Answers.{accepted-passed, passed-accepted, call-gives, settle-gives, settling-tells}
 

@@ -16,7 +16,7 @@ use Rattle.network.specs.Compare.{Larger, AtEveryRow₃}
 use Rattle.world.specs.Rows.{rows, kindOf}
 use Rattle.refusals.specs.declared.Checked.the-variants.{Accepted}
 use Rattle.refusals.proofs.Passed.{passed-values, values-pass}
-use Rattle.electrical.specs.Emitted.{goodDevice, isBadDevice, checkDevices}
+use Rattle.emitted.specs.Emitted.{goodDevice, isBadDevice, checkDevices}
 use Rattle.electrical.specs.Join.{largerOf}
 
 pub record Devices (t : Bytes) (d : Column) : Type 0 where

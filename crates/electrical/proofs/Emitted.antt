@@ -16,7 +16,7 @@ use Rattle.network.specs.Laws.Kept.{row-past, tabulate-kept}
 use Rattle.network.specs.Laws.Join.{larger-kept, rises-larger}
 use Rattle.blocks.specs.Kind.{Comparator, RedstoneBlock, isSwitch}
 use Rattle.world.specs.Rows.{rows, kindOf, isPowered}
-use Rattle.electrical.specs.Emitted.{isOnOff, switchLevel, emittedLevel, emitted}
+use Rattle.emitted.specs.Emitted.{isOnOff, switchLevel, emittedLevel, emitted}
 
 cond-rises : (b : Bool) {w x y z : ℕ} → w ≤ x → y ≤ z → cond b w y ≤ cond b x z
 cond-rises true g h = g

@@ -13,8 +13,8 @@ use Rattle.world.specs.Rows.{rows}
 use Rattle.refusals.specs.declared.Checked.{Checked}
 use Rattle.refusals.specs.Check.{orElse, also, checkInput, IsAccepted, answerOf, written}
 use Rattle.refusals.specs.Answers.{ofInput}
-use Rattle.electrical.specs.Emitted.{emitted, checkDevices, IsValid}
-use Rattle.electrical.specs.Edges.{networkOf}
+use Rattle.emitted.specs.Emitted.{emitted, checkDevices, IsValid}
+use Rattle.edges.specs.Edges.{networkOf}
 
 -- "The number of rounds .., the answering one counted", of the table t with the devices d under the profile p
 unfoldable pub roundsOf : Bytes → Bytes → Column → ℕ

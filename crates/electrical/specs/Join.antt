@@ -4,7 +4,7 @@ use Prim.Native.Nat.{ℕ, _≤_, max}
 use lib.ListN.{length}
 use Rattle.columns.specs.Column.{Bytes, Column, row, tabulate}
 use Rattle.network.specs.Compare.{Larger, AtEveryRow₃, States₃}
-use Rattle.electrical.specs.Emitted.{IsValid}
+use Rattle.emitted.specs.Emitted.{IsValid}
 use Rattle.electrical.specs.Answer.{roundsOf, settled, Settles, From1To17}
 
 -- "joined by taking the larger number at each row"

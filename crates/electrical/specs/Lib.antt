@@ -1,4 +1,2 @@
-pub mod Emitted
-pub mod Edges
 pub mod Answer
 pub mod Join

@@ -14,7 +14,7 @@ use borrow.Author.Tests.{eq-eqb, ne-eqb, lt-ltb}
 use Rattle.columns.specs.Column.{Bytes, Column}
 use Rattle.blocks.specs.Kind.{RedstoneTorch, Repeater, Comparator, RedstoneLamp}
 use Rattle.world.specs.Rows.{kindOf, poweredOf, isPowered}
-use Rattle.electrical.specs.Emitted.{goodDevice}
+use Rattle.emitted.specs.Emitted.{goodDevice}
 use Rattle.states.specs.Row.{delayOf, bitsSet, isCandidate, goodQueue, goodLamp, goodTorch, goodState}
 use Rattle.levels.specs.Numbers.{hasPower}
 use Rattle.fresh.specs.Fresh.{freshDevice, freshQueue, freshLamp, freshRow}

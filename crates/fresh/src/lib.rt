@@ -2,13 +2,13 @@
 use blocks::kind;
 use levels::has_power;
 use levels::number;
+use levels::signal::Signal;
 use states::bits::two_to;
 use states::row::delay_of;
 use world::row::is_powered;
 use world::row::kind_of;
 use world::row::level_or;
 use world::row::powered_of;
-use world::signal::Signal;
 ghost use mathlib.Core.Path.{_≡_};
 ghost use mathlib.Core.Bool.{cond};
 ghost use Prim.Native.Nat.{_<_};

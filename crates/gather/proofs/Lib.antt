@@ -1,4 +1,3 @@
-pub mod Arriving
 pub mod Halving
 pub mod Near
 pub mod Slotted

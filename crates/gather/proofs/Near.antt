@@ -16,12 +16,12 @@ use Rattle.places.specs.Places.{North, East, South, West, horizontals, opposite
 use Rattle.places.proofs.Order.{samePos-true}
 use Rattle.places.proofs.Steps.{InRange, sideways, offset-back, sideways-back, opposite-horizontal, above-beside, below-beside, aroundAlong, around}
 use Rattle.world.specs.Rows.{rows, posOf, kindOf}
-use Rattle.world.specs.Traits.{traits}
+use Rattle.traits.specs.Traits.{traits}
 use Rattle.refusals.specs.Accepted.{Table}
 use Rattle.refusals.proofs.Accepted.{in-range}
 use Rattle.wire.specs.Transfer.{transmitsBy}
 use Rattle.wire.proofs.Around.{transmits-around}
-use Rattle.electrical.specs.Edges.{someOf, armTo, alongArm, dustToWeakBy}
+use Rattle.edges.specs.Edges.{someOf, armTo, alongArm, dustToWeakBy}
 use Rattle.gather.specs.Slots.{aroundAt, overAt}
 
 -- the position n is the one at some k below w

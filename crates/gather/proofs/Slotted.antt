@@ -19,14 +19,14 @@ use Rattle.blocks.specs.Kind.{isDust}
 use Rattle.places.specs.declared.Pos.{Pos}
 use Rattle.world.specs.Rows.{rows, posOf, kindOf}
 use Rattle.world.specs.Find.{find}
-use Rattle.world.specs.Traits.{traits}
+use Rattle.traits.specs.Traits.{traits}
 use Rattle.world.proofs.Finding.{found-stands}
 use Rattle.refusals.specs.Accepted.{Table}
 use Rattle.refusals.proofs.Accepted.{find-at}
-use Rattle.wire.specs.Arms.{armOf}
+use Rattle.arms.specs.Arms.{armOf}
 use Rattle.wire.specs.Transfer.{transmits}
 use Rattle.wire.proofs.Around.{transmits-dust}
-use Rattle.electrical.specs.Edges.{dustToWeakBy, dustToWeak}
+use Rattle.edges.specs.Edges.{dustToWeakBy, dustToWeak}
 use Rattle.gather.specs.Slots.{aroundAt, overAt, noRow, slotOf, feederAt, underAt, feeders, unders}
 use Rattle.network.specs.Laws.Top.{top-same, top-less}
 use Rattle.gather.proofs.Halving.{byHalves-is}

@@ -1,3 +1,2 @@
-pub mod Arrivals
 pub mod Halves
 pub mod Slots

@@ -10,9 +10,9 @@ use Rattle.blocks.specs.Kind.{isDust}
 use Rattle.places.specs.declared.Pos.{Pos}
 use Rattle.places.specs.Places.{North, East, South, West, beside, above, below}
 use Rattle.world.specs.Rows.{posOf, kindOf}
-use Rattle.world.specs.Traits.{traits}
+use Rattle.traits.specs.Traits.{traits}
 use Rattle.wire.specs.Transfer.{transmits}
-use Rattle.electrical.specs.Edges.{dustToWeak}
+use Rattle.edges.specs.Edges.{dustToWeak}
 use Rattle.gather.specs.Halves.{findByHalves}
 
 -- ---- the positions

@@ -1,4 +1,3 @@
-// What settling computes once, before the rounds: emitted levels, what arrives from sources that no round changes, and the rows of dust that feed.
-pub mod arrivals;
+// The rows of dust that feed a row, which settling gathers once, before the rounds.
 mod halves;
 pub mod slots;

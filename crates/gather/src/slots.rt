@@ -2,13 +2,13 @@
 use crate::halves::find_by_halves;
 use blocks::kind;
 use columns::Found;
-use electrical::edges::dust_to_weak;
+use edges::dust_to_weak;
 use places::Facing;
 use places::Pos;
+use traits::redstone_traits;
 use wire::transfer::transmits;
 use world::row::kind_of;
 use world::row::pos_of;
-use world::traits::redstone_traits;
 ghost use mathlib.Core.Path.{_≡_};
 ghost use Prim.Native.Nat.{_<_};
 ghost use lib.ListN.{length};

@@ -1,4 +1,6 @@
 // The settled power, read at a row: 0 past the end of a column. And what is on or off, as a number.
+pub mod signal;
+
 use columns::byte_at;
 use columns::larger;
 ghost use mathlib.Core.Path.{_≡_};

@@ -6,7 +6,7 @@ use lib.ListN.{length, drop}
 use lib.Dec.{leb}
 use Rattle.columns.specs.Column.{Bytes, same}
 use Rattle.columns.specs.Ascii.{ascii}
-use Rattle.world.specs.Shapes.{Plain, BottomSlab, TopSlab, DoubleSlab, BottomStairs, TopStairs, Glass}
+use Rattle.traits.specs.Shapes.{Plain, BottomSlab, TopSlab, DoubleSlab, BottomStairs, TopStairs, Glass}
 
 abbrev pub endsWith : Bytes → Bytes → Bool
 endsWith end s = leb (length end) (length s) && same (drop (length s - length end) s) end

@@ -1,5 +1,5 @@
 // The shape of a block by its name. A name is never refused.
-use world::shape;
+use traits::shape;
 ghost use mathlib.Core.Path.{_≡_};
 ghost use Rattle.names.specs.Names.{endsWith, slabShape, stairsShape, isGlass, shapeOfName};
 

@@ -15,7 +15,7 @@ use Rattle.places.specs.declared.Place.the-variants.{There, Nowhere}
 use Rattle.connectivity.specs.declared.Sides.{Sides}
 use Rattle.connectivity.specs.declared.Sides.the-variants.{Both, Neither}
 use Rattle.connectivity.specs.Ports.{repeaterInputPos, repeaterOutputPos, comparatorInputPos, comparatorOutputPos, deviceSidePositions}
-use Rattle.world.specs.declared.traits.BlockRedstoneTraits.{BlockRedstoneTraits}
+use Rattle.traits.specs.declared.BlockRedstoneTraits.{BlockRedstoneTraits}
 
 -- the row found, or the largest number of 64 bits
 abbrev pub rowNumber : Found → ℕ

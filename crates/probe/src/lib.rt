@@ -7,11 +7,11 @@ ghost use lib.IntN.{ℤ};
 ghost use Rattle.places.specs.Places.{cell, opposite, horizontalOffset};
 ghost use Rattle.places.specs.Places.{offset as moved};
 ghost use Rattle.world.specs.Find.{find, kindAt};
-ghost use Rattle.world.specs.Traits.{traits};
+ghost use Rattle.traits.specs.Traits.{traits};
 ghost use Rattle.names.specs.Names.{shapeOfName};
 ghost use Rattle.refusals.specs.Check.{checkInput, answerOf};
 ghost use Rattle.supports.specs.Supports.{Listed};
-ghost use Rattle.wire.specs.Arms.{componentConnects, inferWireConnection, resolvedWireConnection};
+ghost use Rattle.arms.specs.Arms.{componentConnects, inferWireConnection, resolvedWireConnection};
 ghost use Rattle.wire.specs.Transfer.{dustTransfer, transferNumber};
 ghost use Rattle.redraw.specs.Redraw.{Redraws};
 ghost use Rattle.probe.specs.Numbers.{rowNumber, kindProperties, traitsNumber, coordinate, placeCoordinate, knownFacing, isThere, portOf, bit};
@@ -52,7 +52,7 @@ pub extern "C" fn probe_properties(profile: &[u8], kind: u32) -> u32
 pub extern "C" fn probe_traits(profile: &[u8], table: &[u8], row: u64) -> u32
     ensures { λ r. ⌜ r ≡ traitsNumber (traits (now (profile .entry)) (now (table .entry)) row) ⌝ }
 {
-    numbers::traits_number(world::traits::redstone_traits(profile, table, row as usize))
+    numbers::traits_number(traits::redstone_traits(profile, table, row as usize))
 }
 
 #[no_mangle]
@@ -117,10 +117,7 @@ pub extern "C" fn probe_component_connects(table: &[u8], x: i32, y: i32, z: i32,
     ensures { λ r. ⌜ r ≡ bit (componentConnects (now (table .entry)) (cell x y z) (knownFacing facing)) 1 ⌝ }
 {
     let code = numbers::facing_of(facing).code;
-    numbers::bit(
-        wire::arms::component_connects(table, Pos::new(x, y, z), code),
-        1,
-    )
+    numbers::bit(arms::component_connects(table, Pos::new(x, y, z), code), 1)
 }
 
 #[no_mangle]
@@ -135,7 +132,7 @@ pub extern "C" fn probe_infer(
     ensures { λ r. ⌜ r ≡ inferWireConnection (now (profile .entry)) (now (table .entry)) (cell x y z) (knownFacing facing) ⌝ }
 {
     let code = numbers::facing_of(facing).code;
-    wire::arms::infer_wire_connection(profile, table, Pos::new(x, y, z), code) as u32
+    arms::infer_wire_connection(profile, table, Pos::new(x, y, z), code) as u32
 }
 
 #[no_mangle]
@@ -150,7 +147,7 @@ pub extern "C" fn probe_resolved(
     ensures { λ r. ⌜ r ≡ resolvedWireConnection (now (profile .entry)) (now (table .entry)) (cell x y z) (knownFacing facing) ⌝ }
 {
     let code = numbers::facing_of(facing).code;
-    wire::arms::resolved_wire_connection(profile, table, Pos::new(x, y, z), code) as u32
+    arms::resolved_wire_connection(profile, table, Pos::new(x, y, z), code) as u32
 }
 
 #[no_mangle]

@@ -18,16 +18,16 @@ use Rattle.columns.specs.First.{onFound}
 use Rattle.columns.proofs.Parts.{length-part, part-at}
 use Rattle.places.specs.declared.Pos.{Pos}
 use Rattle.places.specs.Places.{isHorizontal, beside}
-use Rattle.world.specs.declared.traits.BlockRedstoneTraits.{BlockRedstoneTraits}
+use Rattle.traits.specs.declared.BlockRedstoneTraits.{BlockRedstoneTraits}
 use Rattle.world.specs.Rows.{rows, byteOf, kindOf, shapeOf}
 use Rattle.world.specs.Find.{find}
-use Rattle.world.specs.Traits.{ArmNone, ArmSide, ArmUp, isArm, nothing, topHalf, doubleSlab, glass, plain, ofShape, traits, traitsAt}
+use Rattle.traits.specs.Traits.{ArmNone, ArmSide, ArmUp, isArm, nothing, topHalf, doubleSlab, glass, plain, ofShape, traits, traitsAt}
 use Rattle.layout.specs.Good.{goodArms}
 use Rattle.layout.proofs.Fields.{Arms as ArmsField, good-field}
 use Rattle.refusals.specs.Check.{IsAccepted}
 use Rattle.refusals.proofs.Accepted.{accepted-input}
 use Rattle.refusals.proofs.Again.{Changes, accepted-again}
-use Rattle.wire.specs.Arms.{joins, rises, drops, inferPast, inferWireConnection}
+use Rattle.arms.specs.Arms.{joins, rises, drops, inferPast, inferWireConnection}
 use Rattle.redraw.specs.declared.Arms.{Arms}
 use Rattle.redraw.specs.Redraw.{entryOf, entriesOf, left, added, withOpposite, drawn, redrawnRow, updateWireShapes}
 use Rattle.redraw.proofs.Rows.{isArmByte, by-kind}

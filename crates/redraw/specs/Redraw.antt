@@ -11,9 +11,9 @@ use Rattle.columns.specs.Column.{Bytes, part, concatRows}
 use Rattle.places.specs.declared.Pos.{Pos}
 use Rattle.places.specs.Places.{North, East, South, West}
 use Rattle.world.specs.Rows.{rows, posOf, kindOf}
-use Rattle.world.specs.Traits.{ArmSide, isArm}
+use Rattle.traits.specs.Traits.{ArmSide, isArm}
 use Rattle.refusals.specs.Check.{checkInput, answerOf, written}
-use Rattle.wire.specs.Arms.{inferWireConnection}
+use Rattle.arms.specs.Arms.{inferWireConnection}
 use Rattle.redraw.specs.declared.Arms.{Arms}
 
 -- "drops None": the inferred arm of dust at q as an entry, 0 where it is None

@@ -1,12 +1,12 @@
 // The arms of dust drawn anew: `update_wire_shapes`.
+use arms::infer_wire_connection;
 use blocks::kind;
 use places::Facing;
 use places::Pos;
 use refusals::Checked;
-use wire::arms::infer_wire_connection;
+use traits::ARM_NONE;
+use traits::ARM_SIDE;
 use world::row;
-use world::traits::ARM_NONE;
-use world::traits::ARM_SIDE;
 ghost use mathlib.Core.Path.{_≡_};
 ghost use Prim.Native.Nat.{_+_, _*_, _≤_};
 ghost use lib.Dec.{eqb};

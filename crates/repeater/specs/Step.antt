@@ -13,7 +13,7 @@ use Rattle.world.specs.Find.{find, findAt}
 use Rattle.connectivity.specs.declared.Sides.{Sides}
 use Rattle.connectivity.specs.declared.Sides.the-variants.{Both, Neither}
 use Rattle.connectivity.specs.Ports.{inputOf, sidesOf}
-use Rattle.electrical.specs.Edges.{outputsTo}
+use Rattle.edges.specs.Edges.{outputsTo}
 use Rattle.states.specs.Row.{queueOf, delayOf}
 use Rattle.levels.specs.Numbers.{Numbers, powerAt, number}
 

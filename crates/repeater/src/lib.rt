@@ -2,7 +2,7 @@
 use columns::Found;
 use columns::byte_at;
 use connectivity::Sides;
-use electrical::edges::outputs_to;
+use edges::outputs_to;
 use levels::power_at;
 use places::Pos;
 use states::bits::two_to;

@@ -14,7 +14,7 @@ use Rattle.columns.proofs.Truth.{and-true}
 use Rattle.network.specs.Network.{emptyMap}
 use Rattle.world.specs.Rows.{rows}
 use Rattle.refusals.specs.Accepted.{Table}
-use Rattle.electrical.specs.Edges.{networkOf}
+use Rattle.edges.specs.Edges.{networkOf}
 use Rattle.electrical.specs.Answer.{goodColumns}
 use Rattle.rounds.specs.Prepared.{Outputs}
 

@@ -14,11 +14,11 @@ use Rattle.network.specs.Network.{Network, strongOf, weakOf, level, signals, em
 use Rattle.network.specs.Settled.{roundsOf, settled}
 use Rattle.network.specs.Laws.Loop.{Unanswered, Answered, repeats, unanswered-start, answered-next, unanswered-next, unanswered-out}
 use Rattle.blocks.specs.Kind.{isDust}
-use Rattle.world.specs.declared.signal.Rounds.{Rounds}
+use Rattle.levels.specs.declared.signal.Rounds.{Rounds}
 use Rattle.world.specs.Rows.{rows, kindOf}
 use Rattle.refusals.specs.declared.Checked.the-variants.{Accepted}
 use Rattle.refusals.specs.Check.{refuseUnless}
-use Rattle.electrical.specs.Edges.{strongToWeak, emittedToDust, strongToDust, networkOf}
+use Rattle.edges.specs.Edges.{strongToWeak, emittedToDust, strongToDust, networkOf}
 use Rattle.electrical.specs.Answer.{Columns}
 use Rattle.electrical.proofs.Demand.{on-map}
 use Rattle.gather.proofs.Slotted.{arriving-feeders, arriving-unders}

@@ -10,7 +10,7 @@ use Rattle.network.specs.Network.{strongOf, emptyMap}
 use Rattle.network.specs.Laws.Loop.{unmapped}
 use Rattle.world.specs.Rows.{rows}
 use Rattle.refusals.specs.Accepted.{Table}
-use Rattle.electrical.specs.Edges.{strongToWeak, emittedToDust, strongToDust, networkOf}
+use Rattle.edges.specs.Edges.{strongToWeak, emittedToDust, strongToDust, networkOf}
 use Rattle.gather.specs.Slots as Slots
 
 -- Of the accepted table t with the emitted levels, under the profile p: the weak power from strong power, the direct levels, the slots of the dust that

@@ -1,18 +1,18 @@
 // The loop of rounds over the prepared columns.
 use crate::Outcome;
+use levels::signal::Rounds;
 use round::answers;
 use round::copy;
 use round::first_signals;
 use round::next_signals;
 use round::next_weaks;
-use world::signal::Rounds;
 ghost use mathlib.Core.Path.{_≡_};
 ghost use lib.ListN.{length};
 ghost use Rattle.columns.specs.Column.{tabulate};
 ghost use Rattle.network.specs.Network.{strongOf, emptyMap};
 ghost use Rattle.network.specs.Settled.{roundsOf, settled};
 ghost use Rattle.world.specs.Rows.{rows};
-ghost use Rattle.electrical.specs.Edges.{networkOf};
+ghost use Rattle.edges.specs.Edges.{networkOf};
 ghost use Rattle.round.specs.Round.{firstSignal};
 ghost use Rattle.rounds.specs.Prepared.{Prepared, Buffers, Outputs};
 ghost use Rattle.rounds.specs.Outcome.{writtenBy, RunsRounds, Solves};

@@ -7,7 +7,7 @@ use borrow.Author.Tests.{eq-eqb, le-leb}
 use Rattle.columns.specs.Column.{Bytes, Column}
 use Rattle.refusals.specs.declared.Checked.the-variants.{Accepted}
 use Rattle.refusals.specs.Check.{IsAccepted}
-use Rattle.electrical.specs.Emitted.{IsValid}
+use Rattle.emitted.specs.Emitted.{IsValid}
 use Rattle.electrical.specs.Answer.{roundsOf, settled, checkCall}
 use Rattle.electrical.proofs.Demand.{rounds-range}
 use Rattle.rounds.specs.declared.Outcome.{Outcome}

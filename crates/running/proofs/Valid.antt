@@ -11,7 +11,7 @@ use Rattle.columns.proofs.Columns.{length-tabulate, row-tabulate}
 use Rattle.columns.proofs.Parts.{length-concatRows, part-concatRows}
 use Rattle.world.specs.Rows.{rows}
 use Rattle.refusals.proofs.Passed.{passed-values, values-pass}
-use Rattle.electrical.specs.Emitted.{IsValid}
+use Rattle.emitted.specs.Emitted.{IsValid}
 use Rattle.electrical.specs.Answer.{settled}
 use Rattle.electrical.proofs.Devices.{devices-valid}
 use Rattle.states.specs.Row.{deviceOf, goodState}

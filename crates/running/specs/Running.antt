@@ -6,7 +6,7 @@ use lib.ListN.{length}
 use Rattle.columns.specs.Column.{Bytes, Column}
 use Rattle.world.specs.Rows.{rows}
 use Rattle.refusals.specs.Check.{IsAccepted}
-use Rattle.electrical.specs.Emitted.{IsValid}
+use Rattle.emitted.specs.Emitted.{IsValid}
 use Rattle.electrical.specs.Answer.{settled}
 use Rattle.updates.specs.State.{devicesOf}
 

@@ -1,17 +1,17 @@
 // What the calls do once their checks have passed.
+use levels::signal::Rounds;
 use rounds::Outcome;
 use updates::state::fill_devices;
 use updates::state::fill_fresh;
 use updates::state::fill_fresh_devices;
 use updates::state::set_devices;
 use updates::state::set_lamps;
-use world::signal::Rounds;
 ghost use mathlib.Core.Path.{_≡_};
 ghost use Prim.Native.Nat.{_*_};
 ghost use lib.ListN.{length};
 ghost use Rattle.world.specs.Rows.{rows};
 ghost use Rattle.refusals.specs.Check.{IsAccepted};
-ghost use Rattle.electrical.specs.Emitted.{IsValid};
+ghost use Rattle.emitted.specs.Emitted.{IsValid};
 ghost use Rattle.electrical.specs.Answer.{roundsOf};
 ghost use Rattle.updates.specs.State.{devicesOf, IsValidState, freshDevices, freshState};
 ghost use Rattle.updates.specs.Tick.{tick, ticks};

@@ -6,7 +6,7 @@ use Rattle.columns.specs.Column.{Bytes, Column, tabulate}
 use Rattle.places.specs.declared.Pos.{Pos}
 use Rattle.world.specs.Rows.{rows}
 use Rattle.wire.proofs.Alike.{same-rows, same-kind}
-use Rattle.electrical.specs.Emitted.{IsValid}
+use Rattle.emitted.specs.Emitted.{IsValid}
 use Rattle.electrical.proofs.Devices.{valid-devices, devices-valid}
 use Rattle.states.specs.Row.{deviceOf}
 use Rattle.switching.specs.Switch.{switched}

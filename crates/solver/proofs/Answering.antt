@@ -12,7 +12,7 @@ use Rattle.refusals.specs.Check.{refuseUnless, checkInput, answerOf}
 use Rattle.refusals.proofs.Passed.{passed-unless, passed-both}
 use Rattle.refusals.specs.Accepted.{Table}
 use Rattle.refusals.proofs.Accepted.{accepted-input}
-use Rattle.electrical.specs.Emitted.{checkDevices}
+use Rattle.emitted.specs.Emitted.{checkDevices}
 use Rattle.electrical.specs.Answer.{roundsOf, settled, goodColumns, checkCall, checkSettle, Settles}
 use Rattle.rounds.specs.declared.Outcome.{Outcome}
 use Rattle.rounds.specs.declared.Outcome.the-variants.{Unsettled}

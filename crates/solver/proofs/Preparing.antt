@@ -12,10 +12,10 @@ use Rattle.network.specs.Settled as Network
 use Rattle.network.specs.Laws.Loop.{unmapped}
 use Rattle.world.specs.Rows.{rows}
 use Rattle.refusals.specs.Accepted.{Table}
-use Rattle.electrical.specs.Emitted as Emitted
+use Rattle.emitted.specs.Emitted as Emitted
 use Rattle.electrical.specs.Answer as Answer
-use Rattle.electrical.specs.Edges.{emittedToStrong, strongToWeak, networkOf}
-use Rattle.gather.specs.Arrivals.{directAt}
+use Rattle.edges.specs.Edges.{emittedToStrong, strongToWeak, networkOf}
+use Rattle.arrivals.specs.Arrivals.{directAt}
 use Rattle.gather.specs.Slots as Slots
 use Rattle.rounds.specs.declared.Outcome.{Outcome}
 use Rattle.rounds.specs.Outcome.{Solves}

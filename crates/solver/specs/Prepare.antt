@@ -7,8 +7,8 @@ use lib.ListN.{length}
 use Rattle.columns.specs.Column.{Bytes, Column}
 use Rattle.network.specs.Network.{strongOf}
 use Rattle.world.specs.Rows.{rows}
-use Rattle.electrical.specs.Edges.{networkOf}
-use Rattle.electrical.specs.Emitted as Emitted
+use Rattle.edges.specs.Edges.{networkOf}
+use Rattle.emitted.specs.Emitted as Emitted
 use Rattle.rounds.specs.Prepared.{Prepared}
 
 -- Of the table t with the device column d, under the profile p: the emitted levels, the strong power and the prepared columns.

@@ -2,7 +2,7 @@
 mod prepare;
 
 use crate::prepare::solve_in;
-use electrical::device::check_call;
+use electrical::check_call;
 use refusals::Checked;
 use refusals::answer;
 use rounds::Outcome;

@@ -1,6 +1,5 @@
 // The columns that no round changes, and then the rounds.
-use gather::arrivals;
-use gather::arrivals::Edge;
+use arrivals::Edge;
 use gather::slots;
 use rounds::Outcome;
 use rounds::settle::settle;

@@ -9,7 +9,7 @@ use Rattle.world.specs.Rows.{rows, posOf, kindOf}
 use Rattle.refusals.specs.Accepted.{Table}
 use Rattle.refusals.proofs.Accepted.{find-own}
 use Rattle.connectivity.specs.Ports.{inputOf, outputOf, sidesOf, ofKind, repeaterInputPos, repeaterOutputPos, comparatorInputPos, comparatorOutputPos, deviceSidePositions}
-use Rattle.wire.specs.Arms.{armOf, hasArm, resolvedWireConnection, wireHasArm}
+use Rattle.arms.specs.Arms.{armOf, hasArm, resolvedWireConnection, wireHasArm}
 use Rattle.wire.specs.Transfer.{transferOf, transmits, dustTransfer, dustTransmits}
 use Rattle.wire.proofs.Found.{arm-found, has-arm-found, transfer-found, transmits-found}
 

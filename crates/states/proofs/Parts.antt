@@ -6,7 +6,7 @@ use Prim.Native.Nat.{ℕ}
 use Rattle.columns.specs.Column.{Bytes}
 use Rattle.columns.proofs.Truth.{and-true}
 use Rattle.world.specs.Rows.{kindOf}
-use Rattle.electrical.specs.Emitted.{goodDevice}
+use Rattle.emitted.specs.Emitted.{goodDevice}
 use Rattle.states.specs.Row.{deviceOf, goodQueue, goodLamp, goodTorch, goodRest, goodState}
 
 pub record Parts (t : Bytes) (i : ℕ) (r : Bytes) : Type 0 where

@@ -8,7 +8,7 @@ use Rattle.columns.specs.Column.{Bytes}
 use Rattle.columns.specs.First.{allBelow}
 use Rattle.blocks.specs.Kind.{RedstoneTorch, Repeater, RedstoneLamp}
 use Rattle.world.specs.Rows.{kindOf, delayOr}
-use Rattle.electrical.specs.Emitted.{goodDevice}
+use Rattle.emitted.specs.Emitted.{goodDevice}
 
 -- ---- the fields of a row's sixteen bytes r
 

@@ -3,7 +3,7 @@ use crate::bits::is_candidate;
 use crate::bits::two_to;
 use blocks::kind;
 use columns::byte_at;
-use electrical::device::good_device;
+use emitted::device::good_device;
 use world::row::kind_of;
 ghost use mathlib.Core.Path.{_≡_};
 ghost use Prim.Native.Nat.{_<_};

@@ -16,7 +16,7 @@ use Rattle.columns.proofs.Columns.{is-tabulate}
 use Rattle.columns.proofs.Truth.{and-true}
 use Rattle.blocks.specs.Kind.{RedstoneTorch, Repeater, Comparator, RedstoneLamp}
 use Rattle.world.specs.Rows.{kindOf}
-use Rattle.electrical.specs.Emitted.{goodDevice}
+use Rattle.emitted.specs.Emitted.{goodDevice}
 use Rattle.levels.specs.Numbers.{Numbers, hasPower, number}
 use Rattle.states.specs.Row.{delayOf, isCandidate, goodQueue, goodLamp, goodTorch}
 use Rattle.repeater.specs.Step.{isRequested, isLocked, nextQueue, repeaterRow}

@@ -11,7 +11,7 @@ use Rattle.columns.specs.First.{onFound, indicesFrom}
 use Rattle.blocks.specs.Kind.{RedstoneWire, RedstoneTorch, Repeater, Comparator, Lever, oneOf}
 use Rattle.world.specs.Rows.{rows, kindOf, supportOf}
 use Rattle.world.specs.Find.{findAt}
-use Rattle.world.specs.Traits.{traits}
+use Rattle.traits.specs.Traits.{traits}
 use Rattle.refusals.specs.declared.Checked.{Checked}
 use Rattle.refusals.specs.Check.{also, checkInput, answerOf, written}
 

@@ -25,7 +25,7 @@ fn is_supported(profile: &[u8], table: &[u8], row: usize) -> bool
     let Found::At(j) = world::find::find_at(table, row::support_pos(table, row)) else {
         return false;
     };
-    world::traits::redstone_traits(profile, table, j).supports
+    traits::redstone_traits(profile, table, j).supports
 }
 
 // Whether the row needs a support and has none.

@@ -8,7 +8,7 @@ use Rattle.columns.specs.Column.{Bytes, Column}
 use Rattle.columns.specs.First.{onFound}
 use Rattle.world.specs.Rows.{supportOf}
 use Rattle.world.specs.Find.{findAt}
-use Rattle.world.specs.Traits.{traits, conducts}
+use Rattle.traits.specs.Traits.{traits, conducts}
 use Rattle.states.specs.Row.{deviceOf, togglesOf, candidateOf, isCandidate}
 use Rattle.levels.specs.Numbers.{hasPower, number}
 

@@ -22,7 +22,7 @@ fn torch_support_is_powered(
     let Found::At(j) = find_at(table, world::row::support_pos(table, row)) else {
         return false;
     };
-    let conducts = world::traits::redstone_traits(profile, table, j).conducts();
+    let conducts = traits::redstone_traits(profile, table, j).conducts();
     conducts & has_power(weak, strong, j)
 }
 

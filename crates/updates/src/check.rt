@@ -1,6 +1,6 @@
 // The refusals of a call with a state.
 use columns::Found;
-use electrical::device::good_columns;
+use electrical::good_columns;
 use refusals::Checked;
 use states::row::good_state;
 use world::row::rows;

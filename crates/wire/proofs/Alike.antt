@@ -9,8 +9,8 @@ use lib.ListN.{length}
 use Rattle.columns.specs.Column.{Bytes}
 use Rattle.places.specs.declared.Pos.{Pos}
 use Rattle.world.specs.Rows.{rows, byteOf, wordOf, posOf, kindOf, facingOf, storedArm}
-use Rattle.world.specs.Traits.{traits}
-use Rattle.wire.specs.Arms.{inferWireConnection, armOf}
+use Rattle.traits.specs.Traits.{traits}
+use Rattle.arms.specs.Arms.{inferWireConnection, armOf}
 use Rattle.wire.specs.Transfer.{transmits}
 use Rattle.wire.proofs.Same.{SameRow, SameTraits}
 use Rattle.wire.proofs.Region.{AlikeOver, Holds, rows-alike, around-over, infer-over, row-over, transmits-over}

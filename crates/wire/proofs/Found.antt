@@ -7,7 +7,7 @@ use Rattle.columns.specs.Column.{Bytes}
 use Rattle.columns.specs.declared.Found.the-variants.{At}
 use Rattle.places.specs.declared.Pos.{Pos}
 use Rattle.world.specs.Find.{find}
-use Rattle.wire.specs.Arms.{armOf, hasArm, resolvedWireConnection, wireHasArm}
+use Rattle.arms.specs.Arms.{armOf, hasArm, resolvedWireConnection, wireHasArm}
 use Rattle.wire.specs.Transfer.{transferOf, isTransfer, transmitsBy, transmits, dustTransfer, dustTransmits}
 
 module _ (p t : Bytes) where

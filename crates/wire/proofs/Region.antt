@@ -13,9 +13,9 @@ use Rattle.places.specs.declared.Pos.{Pos}
 use Rattle.places.specs.Places.{isHorizontal, beside, above, below}
 use Rattle.world.specs.Rows.{rows, posOf, kindOf, facingOf, shapeOf, storedArm}
 use Rattle.world.specs.Find.{find, kindAt}
-use Rattle.world.specs.Traits.{nothing, traits, traitsAt, ArmNone}
+use Rattle.traits.specs.Traits.{nothing, traits, traitsAt, ArmNone}
 use Rattle.world.proofs.Finding.{found-stands, same-find}
-use Rattle.wire.specs.Arms.{connects, componentConnects, joins, rises, drops, inferPast, inferWireConnection, armOf}
+use Rattle.arms.specs.Arms.{connects, componentConnects, joins, rises, drops, inferPast, inferWireConnection, armOf}
 use Rattle.wire.specs.Transfer.{transmitsBy}
 use Rattle.wire.proofs.Same.{SameRow, SameTraits, same-transmits}
 

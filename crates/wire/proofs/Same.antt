@@ -9,7 +9,7 @@ use Rattle.columns.specs.Column.{Bytes}
 use Rattle.places.specs.declared.Pos.{Pos}
 use Rattle.places.specs.Places.{North, East, South, West, horizontals, isHorizontal, opposite, beside, below}
 use Rattle.world.specs.Rows.{posOf, kindOf}
-use Rattle.world.specs.Traits.{traitsAt}
+use Rattle.traits.specs.Traits.{traitsAt}
 use Rattle.wire.specs.declared.transfer.DustTransfer.the-variants.{NoTransfer}
 use Rattle.wire.specs.Transfer.{fitsHorizontal, fitsRise, fitsFall, ruleAlong, firstRule, transferBy, isTransfer, transmitsBy}
 

@@ -11,8 +11,8 @@ use Rattle.places.specs.declared.Pos.{Pos}
 use Rattle.places.specs.Places.{horizontals, opposite, beside, above, below, samePos}
 use Rattle.world.specs.Rows.{posOf, kindOf}
 use Rattle.world.specs.Find.{find}
-use Rattle.world.specs.Traits.{traitsAt, isArm, risesBy}
-use Rattle.wire.specs.Arms.{armOf}
+use Rattle.traits.specs.Traits.{traitsAt, isArm, risesBy}
+use Rattle.arms.specs.Arms.{armOf}
 use Rattle.wire.specs.declared.transfer.DustTransfer.{DustTransfer}
 use Rattle.wire.specs.declared.transfer.DustTransfer.the-variants.{Horizontal, Rise, FallThroughConductor, NoTransfer}
 

@@ -1,3 +1,2 @@
-// Dust: its arms, and how power goes from dust to dust.
-pub mod arms;
+// How power goes from dust to dust.
 pub mod transfer;

@@ -1,20 +1,20 @@
 // How power goes from dust to dust.
-use crate::arms::arm_of;
-use crate::arms::has_arm;
+use arms::arm_of;
+use arms::has_arm;
 use blocks::kind;
 use columns::Found;
 use places::Facing;
 use places::Pos;
+use traits::traits_at;
 use world::find::find;
 use world::row::kind_of;
 use world::row::pos_of;
-use world::traits::traits_at;
 ghost use mathlib.Core.Path.{_≡_};
 ghost use mathlib.Core.Bool.{_&&_};
 ghost use Rattle.blocks.specs.Kind.{isDust};
 ghost use Rattle.places.specs.Places.{horizontals};
 ghost use Rattle.world.specs.Rows.{kindOf};
-ghost use Rattle.wire.specs.Arms.{armOf};
+ghost use Rattle.arms.specs.Arms.{armOf};
 ghost use Rattle.wire.specs.Transfer.{fitsHorizontal, fitsRise, fitsFall, fits, ruleAlong, ruleOf, firstRule, dustTransfer, isTransfer, transmits, dustTransmits};
 
 // The rule by which power goes from one dust to another, or none: `Option<DustTransfer>`.

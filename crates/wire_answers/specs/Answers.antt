@@ -6,7 +6,7 @@ use lib.Dec.{eqb}
 use Rattle.columns.specs.Column.{Bytes, same}
 use Rattle.places.specs.declared.Pos.{Pos}
 use Rattle.refusals.specs.Check.{checkInput, answerOf, written}
-use Rattle.wire.specs.Arms.{inferWireConnection, resolvedWireConnection}
+use Rattle.arms.specs.Arms.{inferWireConnection, resolvedWireConnection}
 use Rattle.wire.specs.Transfer.{dustTransfer, transferNumber}
 use Rattle.redraw.specs.Redraw.{updateWireShapes}
 use Rattle.probe.specs.Numbers.{knownFacing}

@@ -1,4 +1,2 @@
 pub mod Rows
 pub mod Find
-pub mod Shapes
-pub mod Traits

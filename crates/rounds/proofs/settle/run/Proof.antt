@@ -5,7 +5,7 @@ use Prim.Native.Nat.{_*_}
 use native.Mathlib.Omega.{arith}
 use lib.ListN.{length}
 use Rattle.network.specs.Network.{emptyMap}
-use Rattle.electrical.specs.Edges.{networkOf}
+use Rattle.edges.specs.Edges.{networkOf}
 use Rattle.rounds.proofs.Rounds.{Turning, made-rows, base-rows, direct-rows, feeders-rows, unders-rows, starts, stops, goes-on, ran-settled, ran-unsettled}
 use Rattle.rounds.proofs.settle.run.Statement.{statement}
 use Rattle.rounds.proofs.settle.run.Tie as tie

@@ -3,7 +3,7 @@ use lib.ListN.{length}
 use mathlib.Core.Path.{refl, ap, sym, _∙_}
 use Rattle.columns.specs.Column.{tabulate}
 use Rattle.network.specs.Network.{strongOf}
-use Rattle.electrical.specs.Edges.{networkOf}
+use Rattle.edges.specs.Edges.{networkOf}
 use Rattle.round.specs.Round.{firstSignal}
 use Rattle.rounds.proofs.Rounds.{made-rows, solves}
 use Rattle.rounds.proofs.settle.settle_in.Statement.{statement}

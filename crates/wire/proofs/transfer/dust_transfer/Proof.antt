@@ -5,7 +5,7 @@ use native.Mathlib.Omega.{arith}
 use borrow.Author.Tests.{not-true, not-false}
 use borrow.Author.Needs.{needs}
 use Rattle.wire.specs.declared.transfer.DustTransfer.the-variants.{NoTransfer}
-use Rattle.wire.specs.Arms.{armOf}
+use Rattle.arms.specs.Arms.{armOf}
 use Rattle.wire.specs.Transfer.{transferBy, transferOf, dustTransfer}
 use Rattle.wire.proofs.Found.{transfer-found}
 use Rattle.wire.proofs.Turns.{fromFacing, fromStep, from-first, enter, hit, miss, out, done}

@@ -4,7 +4,7 @@ use mathlib.Core.Bool.{_&&_}
 use borrow.Author.Needs.{needs}
 use Rattle.places.specs.Places.{samePos, beside, below}
 use Rattle.world.specs.Rows.{posOf}
-use Rattle.world.specs.Traits.{risesBy}
+use Rattle.traits.specs.Traits.{risesBy}
 use Rattle.wire.specs.Transfer.{fitsFall}
 use Rattle.wire.proofs.transfer.fits_fall.Statement.{statement}
 use Rattle.wire.proofs.transfer.fits_fall.Tie as tie

@@ -4,7 +4,7 @@ use mathlib.Core.Bool.{_&&_}
 use borrow.Author.Needs.{needs}
 use Rattle.places.specs.Places.{samePos, beside}
 use Rattle.world.specs.Rows.{posOf}
-use Rattle.wire.specs.Arms.{hasArm}
+use Rattle.arms.specs.Arms.{hasArm}
 use Rattle.wire.specs.Transfer.{fitsHorizontal}
 use Rattle.wire.proofs.transfer.fits_horizontal.Statement.{statement}
 use Rattle.wire.proofs.transfer.fits_horizontal.Tie as tie

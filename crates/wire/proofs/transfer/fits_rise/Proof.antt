@@ -3,7 +3,7 @@ use mathlib.Core.Path.{_≡_, sym, ap₂, _∙_}
 use borrow.Author.Needs.{needs}
 use Rattle.places.specs.Places.{samePos, beside, above}
 use Rattle.world.specs.Rows.{posOf}
-use Rattle.world.specs.Traits.{risesBy}
+use Rattle.traits.specs.Traits.{risesBy}
 use Rattle.wire.specs.Transfer.{fitsRise}
 use Rattle.wire.proofs.transfer.fits_rise.Statement.{statement}
 use Rattle.wire.proofs.transfer.fits_rise.Tie as tie

@@ -1,0 +1,38 @@
+-- `edges::emitted_to_strong` meets its contract. Assumes nothing.
+use mathlib.Core.Path.{ap}
+use mathlib.Core.Bool.{and-true, and-false}
+use Rattle.edges.specs.Edges.{emittedToStrong}
+use borrow.Author.Needs.{needs}
+use Rattle.edges.proofs.emitted_to_strong.Statement.{statement}
+use Rattle.edges.proofs.emitted_to_strong.Tie as tie
+
+is-support-of-requires : tie.Need-is-support-of-requires
+is-support-of-requires c κs = search needs
+
+outputs-to-requires : tie.Need-outputs-to-requires
+outputs-to-requires c κs = search needs
+
+is-charged-requires : tie.Need-is-charged-requires
+is-charged-requires c κs = search needs
+
+redstone-traits-requires : tie.Need-redstone-traits-requires
+redstone-traits-requires c κs = search needs
+
+returns : tie.Need-returns
+unfolding emittedToStrong
+returns c = rw (← c .before .before .before .before .is-support-of .ensures, ← c .before .before .before .outputs-to .ensures, ← c .before .before .is-charged .ensures, c .before .if1 .taken, and-true) (ap (λ r. r .strong) (c .redstone-traits .ensures))
+
+returns-2 : tie.Need-returns-2
+unfolding emittedToStrong
+returns-2 c = rw (← c .before .before .before .is-support-of .ensures, ← c .before .before .outputs-to .ensures, ← c .before .is-charged .ensures, c .if1 .left, and-false)
+
+pub emitted-to-strong-spec : {M : Type 1} → statement M
+emitted-to-strong-spec =
+    tie.close
+    (tie.spec
+    is-support-of-requires
+    outputs-to-requires
+    is-charged-requires
+    redstone-traits-requires
+    returns
+    returns-2)

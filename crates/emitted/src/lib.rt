@@ -1,0 +1,3 @@
+// Device columns, and the levels that rows emit with them.
+pub mod device;
+pub mod output;
