@@ -2,7 +2,7 @@
 use borrow.Author.Needs.{needs}
 use mathlib.Core.Path.{sym, _∙_}
 use Rattle.network.specs.Laws.Gather.{arriving-none}
-use Rattle.arrivals.proofs.Arriving.{none-reaches}
+use Rattle.arrivals.proofs.Search.{none-reaches}
 use Rattle.arrivals.proofs.arriving.Statement.{statement}
 use Rattle.arrivals.proofs.arriving.Tie as tie
 

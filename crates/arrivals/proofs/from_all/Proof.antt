@@ -9,7 +9,7 @@ use Rattle.columns.specs.Column.{row}
 use Rattle.network.specs.Levels.{arriving}
 use Rattle.network.specs.Laws.Gather.{arriving-start}
 use Rattle.arrivals.specs.Arrivals.{reaches}
-use Rattle.arrivals.proofs.Arriving.{arriving-low, arriving-past, arriving-above}
+use Rattle.arrivals.proofs.Search.{arriving-low, arriving-past, arriving-above}
 use Rattle.arrivals.proofs.from_all.Statement.{statement}
 use Rattle.arrivals.proofs.from_all.Tie as tie
 
