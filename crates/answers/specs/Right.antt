@@ -1,10 +1,10 @@
--- Whether the answer of a record of operations 1 to 6 is right.
+-- Whether the answer of a record of operations 1 to 3, 5 and 6 is right.
 -- Assumes nothing.
 use mathlib.Core.Bool.{Bool, _&&_}
 use lib.ListN.{getD, drop}
 use Rattle.columns.specs.Column.{Bytes}
-use Rattle.records.specs.Record.{long, posAt, after, sliceOf, number, hasParts}
-use Rattle.answers.specs.Answers.{traitsAgree, shapeAgrees, findAgrees, supportsAgree, propertiesAgree, offsetAgrees}
+use Rattle.records.specs.Record.{long, posAt, after, sliceOf, hasParts}
+use Rattle.answers.specs.Answers.{traitsAgree, shapeAgrees, findAgrees, propertiesAgree, offsetAgrees}
 
 module _ (r : Bytes) where
   -- 1: profile, table, traits
@@ -20,10 +20,6 @@ module _ (r : Bytes) where
   findRight =
       hasParts r 1 21
       && findAgrees (sliceOf r 0) (posAt (after r 1) 0) (long (drop 12 (after r 1))) (getD (after r 1) 20 0)
-
-  -- 4: profile, table, list; answer
-  abbrev pub supportsRight : Bool
-  supportsRight = hasParts r 3 4 && supportsAgree (sliceOf r 0) (sliceOf r 1) (sliceOf r 2) (number r 3 0)
 
   -- 5: profile; properties
   abbrev pub propertiesRight : Bool

@@ -1,22 +1,20 @@
-// Whether the answer of a record of operations 1 to 6 is right: the record is taken apart as its operation lays it out, and its parts are
+// Whether the answer of a record of operations 1 to 3, 5 and 6 is right: the record is taken apart as its operation lays it out, and its parts are
 // compared.
 use crate::find_agrees;
 use crate::offset_agrees;
 use crate::properties_agree;
 use crate::shape_agrees;
-use crate::supports_agree;
 use crate::traits_agree;
 use columns::byte_at;
 use records::after;
 use records::from;
 use records::has_parts;
 use records::long;
-use records::number;
 use records::pos_at;
 use records::slice_of;
 ghost use mathlib.Core.Path.{_≡_};
 ghost use lib.IntN.{ℤ};
-ghost use Rattle.answers.specs.Right.{traitsRight, shapeRight, findRight, supportsRight, propertiesRight, offsetRight};
+ghost use Rattle.answers.specs.Right.{traitsRight, shapeRight, findRight, propertiesRight, offsetRight};
 
 pub fn traits_right(r: &[u8]) -> bool
     ensures { λ b. ⌜ b ≡ traitsRight (now (r .entry)) ⌝ }
@@ -41,18 +39,6 @@ pub fn find_right(r: &[u8]) -> bool
             pos_at(rest, 0),
             long(from(rest, 12)),
             byte_at(rest, 20),
-        )
-}
-
-pub fn supports_right(r: &[u8]) -> bool
-    ensures { λ b. ⌜ b ≡ supportsRight (now (r .entry)) ⌝ }
-{
-    has_parts(r, 3, 4)
-        & supports_agree(
-            slice_of(r, 0),
-            slice_of(r, 1),
-            slice_of(r, 2),
-            number(r, 3, 0),
         )
 }
 

@@ -1,7 +1,4 @@
 // Replays the recorded answers of the original Rust, which stand in the file `vectors` as FORMAT.md says.
-mod operations;
-mod replay;
-
 use libc::STDOUT_FILENO;
 use replay::Tally;
 ghost use mathlib.Core.Path.{_≡_};
