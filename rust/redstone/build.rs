@@ -113,49 +113,51 @@ fn built(root: &Path, sources: &Sources) -> PathBuf {
     library
 }
 
-/// Runs `rt staticlib redstone` and shows how far it is.
+/// Proves the crates that the library is made of, builds it, and shows how far that is.
 fn build(root: &Path, reason: &str) {
-    if !root.join("crates.txt").is_file() {
+    let Ok(list) = fs::read_to_string(root.join("crates.txt")) else {
         fail(&format!(
             "The proved library cannot be linked, for {reason}, nor built, for {} has no crates.txt: set REDSTONE_LIB \
              to a folder that has {LIBRARY}.",
             root.display()
         ));
-    }
-    let mut progress = Progress::new();
+    };
+    let mut progress = Progress::new(needed(&list).len());
     progress.show(&format!(
-        "redstone: running `rt staticlib redstone`, since {reason}. From nothing it takes about four minutes."
+        "redstone: proving and building the library, since {reason}. From nothing it takes four to eight minutes."
     ));
-    match run(root, &mut progress) {
-        Ok((status, _)) if status.success() => {}
-        Ok((_, text)) => {
-            eprint!("{text}");
-            fail(&format!(
-                "`rt staticlib redstone` failed in {}; what it wrote stands above.",
-                root.display()
-            ));
+    // `rt staticlib` alone would prove them one after the other.
+    let check: Vec<_> = ["check"].into_iter().chain(needs(&list, "redstone")).collect();
+    for words in [&check[..], &["staticlib", "redstone"]] {
+        let command = format!("`rt {}`", words.join(" "));
+        match run(root, words, &mut progress) {
+            Ok((status, _)) if status.success() => {}
+            Ok((_, text)) => {
+                eprint!("{text}");
+                fail(&format!("{command} failed in {}; what it wrote stands above.", root.display()));
+            }
+            Err(error) if error.kind() == ErrorKind::NotFound => fail(&format!(
+                "The proved library has to be built, for {reason}, and there is no `rt` on the PATH to build it: \
+                 install the Rattle kit, or set REDSTONE_LIB to a folder that has {LIBRARY}."
+            )),
+            Err(error) => fail(&format!("{command} could not be run: {error}.")),
         }
-        Err(error) if error.kind() == ErrorKind::NotFound => fail(&format!(
-            "The proved library has to be built, for {reason}, and there is no `rt` on the PATH to build it: install \
-             the Rattle kit, or set REDSTONE_LIB to a folder that has {LIBRARY}."
-        )),
-        Err(error) => fail(&format!("`rt staticlib redstone` could not be run: {error}.")),
     }
 }
 
 /// How rt ended, and all that it wrote.
-fn run(root: &Path, progress: &mut Progress) -> io::Result<(ExitStatus, String)> {
+fn run(root: &Path, words: &[&str], progress: &mut Progress) -> io::Result<(ExitStatus, String)> {
     let (reader, writer) = io::pipe()?;
     let mut rt = Command::new("rt");
-    rt.args(["staticlib", "redstone"]).current_dir(root).stdout(writer.try_clone()?).stderr(writer);
+    rt.args(words).current_dir(root).stdout(writer.try_clone()?).stderr(writer);
     let mut running = rt.spawn()?;
     // The command holds the pipe's writing ends, and the text ends when they are closed.
     drop(rt);
     let mut text = String::new();
     for line in BufReader::new(reader).lines() {
         let line = line?;
-        if line.starts_with("rt: ") {
-            progress.show(&format!("redstone: {line}"));
+        if let Some(said) = line.strip_prefix("rt: ") {
+            progress.tell(said);
         }
         text += &line;
         text.push('\n');
@@ -166,11 +168,24 @@ fn run(root: &Path, progress: &mut Progress) -> io::Result<(ExitStatus, String)>
 /// Cargo shows what a build script writes only with `-vv`, so it goes to the terminal, too, if there is one.
 struct Progress {
     terminal: Option<File>,
+    crates: usize,
+    proved: BTreeSet<String>,
 }
 
 impl Progress {
-    fn new() -> Self {
-        Self { terminal: OpenOptions::new().write(true).open("/dev/tty").ok() }
+    fn new(crates: usize) -> Self {
+        let terminal = OpenOptions::new().write(true).open("/dev/tty").ok();
+        Self { terminal, crates, proved: BTreeSet::new() }
+    }
+
+    /// Shows what rt says: of a crate that is proved, once, with how many are.
+    fn tell(&mut self, said: &str) {
+        let Some((name, _)) = said.split_once(" proved (") else {
+            return self.show(&format!("redstone: {said}"));
+        };
+        if self.proved.insert(name.to_owned()) {
+            self.show(&format!("redstone: {said}, {} of {}", self.proved.len(), self.crates));
+        }
     }
 
     fn show(&mut self, line: &str) {
@@ -211,18 +226,23 @@ impl Sources {
     }
 }
 
-/// The crates that the library needs, by the lines `name: needs ..` of crates.txt.
+/// The crates that the library is made of.
 fn needed(list: &str) -> BTreeSet<&str> {
-    let lines: Vec<_> = list.lines().filter_map(|line| line.split_once(':')).collect();
     let mut needed = BTreeSet::new();
     let mut open = vec!["redstone"];
     while let Some(name) = open.pop() {
         if needed.insert(name) {
-            let own = lines.iter().filter(|(known, _)| *known == name);
-            open.extend(own.flat_map(|(_, needs)| needs.split_whitespace()));
+            open.extend(needs(list, name));
         }
     }
     needed
+}
+
+/// What a crate needs, by its line `name: needs ..` of crates.txt.
+fn needs<'a>(list: &'a str, name: &str) -> impl Iterator<Item = &'a str> {
+    let mut lines = list.lines().filter_map(|line| line.split_once(':'));
+    let own = lines.find(|(known, _)| *known == name);
+    own.into_iter().flat_map(|(_, needs)| needs.split_whitespace())
 }
 
 /// A folder changes when a file in it comes or goes.

@@ -79,10 +79,10 @@ fn a_missing_or_stale_library_is_built_and_the_progress_shown() {
         }
         let output = run(&mut command(&repository));
         assert_eq!(linked(&output), repository.path("target/staticlib"));
-        assert_eq!(repository.called().as_deref(), Some("staticlib redstone\n"));
+        assert_eq!(repository.called().as_deref(), Some("check world\nstaticlib redstone\n"));
         let (_, errors) = texts(&output);
-        assert!(errors.contains("it takes about four minutes"), "{errors}");
-        assert!(errors.contains("redstone: rt: world proved (3 s)"), "{errors}");
+        assert!(errors.contains("it takes four to eight minutes"), "{errors}");
+        assert_eq!(errors.matches("redstone: world proved (3 s), 1 of 2\n").count(), 1, "{errors}");
     }
 }
 
@@ -110,10 +110,15 @@ fn a_library_that_cannot_be_built_is_not_linked() {
 
     repository.rt("echo 'it is not proved'; exit 1");
     let output = run(&mut command(&repository));
-    assert!(sentence(&output).starts_with("`rt staticlib redstone` failed in "));
+    assert!(sentence(&output).starts_with("`rt check world` failed in "));
     assert!(texts(&output).1.contains("it is not proved"));
 
-    repository.rt("rm -r target");
+    repository.rt("[ $1 = check ] || { echo 'it is not built'; exit 1; }");
+    let output = run(&mut command(&repository));
+    assert!(sentence(&output).starts_with("`rt staticlib redstone` failed in "));
+    assert!(texts(&output).1.contains("it is not built"));
+
+    repository.rt("rm -rf target");
     assert!(sentence(&run(&mut command(&repository))).contains("is not there"));
 
     fs::remove_file(repository.path("crates.txt")).expect("a file");

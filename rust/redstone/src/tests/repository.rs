@@ -47,12 +47,12 @@ impl Repository {
 
     /// An `rt` that does this.
     pub fn rt(&self, does: &str) {
-        self.write("bin/rt", &format!("#!/bin/sh\necho \"$*\" >called\n{does}\n"));
+        self.write("bin/rt", &format!("#!/bin/sh\necho \"$*\" >>called\n{does}\n"));
         let rt = self.path("bin/rt");
         fs::set_permissions(rt, fs::Permissions::from_mode(0o755)).expect("a program");
     }
 
-    /// The words that `rt` was called with, if it was.
+    /// The words that `rt` was called with, a line for each time, if it was.
     pub fn called(&self) -> Option<String> {
         fs::read_to_string(self.path("called")).ok()
     }

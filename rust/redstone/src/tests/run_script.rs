@@ -52,7 +52,7 @@ fn the_first_run_says_what_it_does_and_shows_how_far_it_is() {
     assert_eq!(written, "the sample");
     assert_eq!(
         said,
-        "make run: proving and building 'settle' with 'rt check settle'; the first time it takes about four minutes\n\
+        "make run: proving and building 'settle' with 'rt check settle'; the first time it takes four to eight minutes\n\
          make run: columns proved (3 s)\n"
     );
     repository.write("other", "another table");
