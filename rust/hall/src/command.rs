@@ -5,11 +5,11 @@ use std::fmt::Write as _;
 use std::io::{self, Write};
 
 use redstone::Refusal;
+use redstone_text::nearest;
 
 use crate::Refused;
 use crate::arguments::Arguments;
 use crate::commands::COMMANDS;
-use crate::nearest::nearest;
 use crate::output::unwritten;
 
 /// A command: one entry of the table [`COMMANDS`].

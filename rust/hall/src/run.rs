@@ -180,11 +180,6 @@ impl Run {
     }
 }
 
-/// The ticks that a repeater's delay counts as.
-pub(crate) fn delay_ticks(row: &Row) -> u8 {
-    row.delay().unwrap_or(1).clamp(1, 4)
-}
-
 /// What a row gives, tick by tick.
 #[derive(Clone, Debug)]
 pub struct Lane {
@@ -205,7 +200,7 @@ pub struct Lane {
 impl Lane {
     fn new(run: &Run, number: usize, row: &Row) -> Self {
         let label = match row.kind() {
-            Kind::Repeater => format!("{} delay {}", block_name(row), delay_ticks(row)),
+            Kind::Repeater => format!("{} delay {}", block_name(row), row.delay_ticks()),
             _ => block_name(row),
         };
         let place = place(row.kind());

@@ -11,7 +11,7 @@ use self::view::{SIDES, View};
 use crate::device::is_candidate;
 use crate::hall::Hall;
 use crate::name::{block_name, is_switch};
-use crate::run::{Frame, Run, delay_ticks};
+use crate::run::{Frame, Run};
 
 /// A circuit in which the game differs, and where the hall has it.
 #[derive(Clone, Debug, Eq, PartialEq)]
@@ -258,14 +258,14 @@ const RULES: &[Rule] = &[
         number: 35,
         sentence: "it gives a pulse that is shorter than its delay; in the game it lasts as long as the delay",
         holds: |view, row| {
-            view.shortest(row, 1).is_some_and(|ticks| ticks < delay_ticks(view.row(row)).into())
+            view.shortest(row, 1).is_some_and(|ticks| ticks < view.row(row).delay_ticks().into())
         },
     },
     Rule {
         number: 36,
         sentence: "it is off for less than its delay; in the game it stays on",
         holds: |view, row| {
-            view.shortest(row, 0).is_some_and(|ticks| ticks < delay_ticks(view.row(row)).into())
+            view.shortest(row, 0).is_some_and(|ticks| ticks < view.row(row).delay_ticks().into())
         },
     },
     Rule {
