@@ -237,8 +237,13 @@ impl Display for Run {
                 write!(f, "From tick {from} on the same {ticks} come again and again")?;
             }
             Outlook::Open => {
-                write!(f, "Up to tick {} no tick repeats an earlier one", self.last_tick())?;
-                return f.write_str(": ask for more with --ticks.");
+                match self.frames.iter().rposition(|frame| !frame.switches.is_empty()) {
+                    Some(switch) => {
+                        write!(f, "From the switch at tick {switch} up to tick {}", self.last_tick())?
+                    }
+                    None => write!(f, "Up to tick {}", self.last_tick())?,
+                }
+                return f.write_str(" no tick repeats an earlier one: ask for more with --ticks.");
             }
         }
         match self.later.iter().map(|switch| switch.tick).min() {
@@ -297,13 +302,27 @@ mod tests {
         );
     }
 
+    /// A switch changes no device at once: a lamp's light, or the ticks that it has left, are all that moves after it.
+    #[test]
+    fn a_lamp_that_answers_a_switch_is_not_still() {
+        let lamp = "0,0,0 RedstoneLamp\n0,1,0 Lever support=0,-1,0\nswitch tick 2 0,1,0 on\n";
+        assert_eq!(run(lamp, 20).outlook, Outlook::Still { from: 3 });
+        assert_eq!(run(&format!("{lamp}switch tick 6 0,1,0 off\n"), 20).outlook, Outlook::Still { from: 9 });
+    }
+
     #[test]
     fn a_run_that_is_too_short_says_so() {
         let open = run(&format!("{LOCK}switch tick 2 0,0,0 on\n"), 4);
         assert_eq!(open.outlook, Outlook::Open);
         assert_eq!(
             open.to_string(),
-            "Up to tick 4 no tick repeats an earlier one: ask for more with --ticks."
+            "From the switch at tick 2 up to tick 4 no tick repeats an earlier one: ask for more with --ticks."
+        );
+        // Before anything is switched, every tick counts.
+        let fresh = run(&LOCK.replace("Lever", "Lever powered=true"), 2);
+        assert_eq!(
+            fresh.to_string(),
+            "Up to tick 2 no tick repeats an earlier one: ask for more with --ticks."
         );
         let before = run(&format!("{LOCK}switch tick 9 0,0,0 on\n"), 4);
         assert_eq!(before.to_string(), "From tick 0 on nothing changes, until the switch at tick 9.");
