@@ -62,9 +62,8 @@ fn write_ticks(run: &Run, out: &mut dyn Write) -> Result<(), Failure> {
         writeln!(out, "none")?;
     }
     writeln!(out, "\n{run}")?;
-    let candidates: Vec<_> = run.candidates();
-    for (row, tick) in candidates {
-        let torch = block_name(&run.rows[row]);
+    for (row, tick) in &run.candidates {
+        let torch = block_name(&run.rows[*row]);
         writeln!(out, "Burn-out candidate: {torch}, from tick {tick} on.")?;
     }
     for switch in &run.later {

@@ -8,7 +8,6 @@ use std::fmt::{self, Display, Formatter};
 use redstone::{Device, Facing, Kind, Refusal};
 
 use self::view::{SIDES, View};
-use crate::device::is_candidate;
 use crate::hall::Hall;
 use crate::name::{block_name, is_switch};
 use crate::run::{Frame, Run};
@@ -147,7 +146,7 @@ const RULES: &[Rule] = &[
     Rule {
         number: 12,
         sentence: "it changes so often that it burns out in the game, and goes on here",
-        holds: |view, row| view.ever(|frame| is_candidate(frame.devices[row])),
+        holds: |view, row| view.run.candidates.iter().any(|(torch, _)| *torch == row),
     },
     Rule {
         number: 13,
