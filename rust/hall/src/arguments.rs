@@ -21,11 +21,14 @@ pub struct Arguments {
 
 impl Arguments {
     /// Reads the words after a command's name.
-    pub(crate) fn read(
-        command: &Command,
-        mut words: impl Iterator<Item = OsString>,
-    ) -> Result<Self, Failure> {
+    pub(crate) fn read(command: &Command, words: impl Iterator<Item = OsString>) -> Result<Self, Failure> {
         let (mut arguments, mut only_operands) = (Self::default(), false);
+        let mut words = words.peekable();
+        // A word that is another option is no value: it was left out.
+        let is_option = |word: &OsString| {
+            let word = word.to_string_lossy();
+            command.options.iter().any(|choice| word.split('=').next() == Some(choice.name))
+        };
         while let Some(word) = words.next() {
             let text = word.to_string_lossy().into_owned();
             if only_operands || !text.starts_with('-') || text == "-" {
@@ -44,7 +47,7 @@ impl Arguments {
             if !choice.may_repeat && arguments.option(choice).is_some() {
                 return Err(Failure::sentence(format!("{name} is given twice: give it once")));
             }
-            let value = value.or_else(|| words.next()).ok_or_else(|| {
+            let value = value.or_else(|| words.next_if(|word| !is_option(word))).ok_or_else(|| {
                 Failure::sentence(format!("{name} has no value: give {name} {}", choice.value))
             })?;
             arguments.options.push((choice.name, value));

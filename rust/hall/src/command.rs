@@ -5,11 +5,11 @@ use std::fmt::Write as _;
 use std::io::{self, Write};
 
 use redstone::Refusal;
+use redstone_text::nearest;
 
 use crate::Refused;
 use crate::arguments::Arguments;
 use crate::commands::COMMANDS;
-use crate::nearest::nearest;
 use crate::output::unwritten;
 
 /// A command: one entry of the table [`COMMANDS`].
@@ -215,7 +215,7 @@ fn dispatch(words: Vec<OsString>, out: &mut dyn Write) -> Result<Status, Failure
     }
     let command = command(&first)?;
     let rest: Vec<_> = words.collect();
-    if rest.iter().any(is_help) {
+    if rest.iter().take_while(|word| *word != "--").any(is_help) {
         out.write_all(command.help().as_bytes())?;
         return Ok(Status::Good);
     }

@@ -52,12 +52,6 @@ impl Course {
         }
         Ok(())
     }
-
-    /// The circuit as it stands.
-    #[must_use]
-    pub fn circuit(&self) -> &Circuit {
-        &self.circuit
-    }
 }
 
 #[cfg(test)]

@@ -133,8 +133,8 @@ impl Expectation {
         let (about, value, place) = match (subject, first.text) {
             (Some(subject), _) => {
                 let place = words.expect("a position x,y,z")?;
-                let value = subject.values.read(&mut words)?;
-                (About::Row(subject, place.position()?), value, Some(place))
+                let position = place.position()?;
+                (About::Row(subject, position), subject.values.read(&mut words)?, Some(place))
             }
             (None, ROUNDS) => (About::Rounds, number(&mut words, Rounds::MOST)?, None),
             (None, BLOCKS) => (About::Blocks, number(&mut words, u32::MAX)?, None),

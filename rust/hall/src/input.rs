@@ -5,7 +5,7 @@ use std::fs::File;
 use std::io::{self, ErrorKind, Read};
 use std::path::Path;
 
-use redstone::{MOST_ROWS, PROFILE_BYTES, ROW_BYTES};
+use redstone::{Circuit, MOST_ROWS, PROFILE_BYTES, ROW_BYTES};
 use redstone_text::{Profile, TableReader, lines};
 
 use crate::{Hall, Refused};
@@ -35,28 +35,27 @@ pub fn read(file: &OsStr, profile: Option<&[u8]>) -> Result<Hall, Refused> {
         ));
     }
     let (own, table) = bytes.split_at(bytes.len().min(PROFILE_BYTES));
-    Hall::from_packed(&name, profile.unwrap_or(own), table)
+    // A file that ends within its own profile is refused for that, whatever other profile is given.
+    let profile = profile.filter(|_| own.len() == PROFILE_BYTES).unwrap_or(own);
+    Hall::from_packed(&name, profile, table)
 }
 
 /// Reads a profile: its bytes, or a text with a line `profile`.
 ///
 /// # Errors
 ///
-/// The file cannot be read, or holds no profile.
+/// The file cannot be read, or holds no profile that is accepted.
 pub fn read_profile(file: &OsStr) -> Result<Vec<u8>, Refused> {
     let name = name(file);
-    let bytes = contents(file, &name)?;
-    if is_packed(&bytes) {
-        return Ok(bytes);
+    let mut profile = contents(file, &name)?;
+    if !is_packed(&profile) {
+        let written = profile_of(text(&name, &profile)?).map_err(|error| Refused::text(&name, &error))?;
+        let none = "there is no profile in it: write a line as `profile Solid=31 Piston=1`";
+        profile = written.ok_or_else(|| Refused::file(&name, none))?.to_vec();
     }
-    match profile_of(text(&name, &bytes)?) {
-        Ok(Some(profile)) => Ok(profile.to_vec()),
-        Ok(None) => Err(Refused::file(
-            &name,
-            "there is no profile in it: write a line as `profile Solid=31 Piston=1`",
-        )),
-        Err(error) => Err(Refused::text(&name, &error)),
-    }
+    // With no rows the profile is all that can be refused, and here it is known whose fault that is.
+    Circuit::new(&profile, []).map_err(|refusal| Refused::file(&name, refusal.to_string()))?;
+    Ok(profile)
 }
 
 /// The profile of a text that has a line `profile` and no other.

@@ -22,7 +22,6 @@ mod hint;
 mod html;
 mod input;
 mod name;
-mod nearest;
 mod output;
 mod picture;
 mod progress;

@@ -8,6 +8,8 @@ use std::os::unix::fs::MetadataExt;
 use std::path::Path;
 
 use crate::command::Failure;
+use crate::hall::Hall;
+use crate::name::counted;
 
 /// Standard output. Unlike [`io::Stdout`] it takes a descriptor that cannot be written for a failure.
 ///
@@ -24,6 +26,10 @@ pub(crate) fn unwritten(name: &str, error: &io::Error) -> String {
     match error.kind() {
         ErrorKind::BrokenPipe => format!("{name} was closed before all was written"),
         ErrorKind::StorageFull => format!("{name} could not be written: the disk is full"),
+        ErrorKind::NotFound => format!("{name} could not be written: there is no such folder"),
+        ErrorKind::IsADirectory => {
+            format!("{name} could not be written: it is a folder, so name a file in it")
+        }
         _ => format!("{name} could not be written: {error}"),
     }
 }
@@ -47,6 +53,18 @@ pub(crate) fn deliver(
             write_file(file, bytes).map_err(|error| Failure::sentence(unwritten(&name, &error)))
         }
     }
+}
+
+/// Says, once all is written, how many lines with switches and expectations a hall has that were left out, and why.
+pub(crate) fn tell_left_out(hall: &Hall, why: &str, out: &mut dyn Write) -> Result<(), Failure> {
+    out.flush()?;
+    let left = hall.switches.len() + hall.expectations.len();
+    if left > 0 {
+        let lines = counted(left, "line");
+        // It changes nothing that this cannot be said.
+        let _ = writeln!(io::stderr(), "hall: {lines} with switches and expectations left out: {why}.");
+    }
+    Ok(())
 }
 
 fn is_same_file(one: &Path, other: &Path) -> bool {

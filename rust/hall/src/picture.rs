@@ -46,13 +46,17 @@ fn draw(text: &mut String, layer: &Layer, signs: &[String], widths: &BTreeMap<i3
             taken += width(x);
             band.push(x);
         }
+        // Far from all rows there is nothing to be seen.
+        if !band.iter().any(|x| widths.contains_key(x)) {
+            continue;
+        }
         let last = band.last().unwrap_or(&first);
         let _ = writeln!(text, "y={}, x from {first} to {last}", layer.y);
         let mut line = |label_text: &str, sign: &dyn Fn(i32) -> String| {
             let signs: String = band.iter().map(|x| format!("{:<1$}", sign(*x), width(*x))).collect();
             let _ = writeln!(text, "{label_text:label$} {}", signs.trim_end());
         };
-        line("", &|x| x.rem_euclid(10).to_string());
+        line("", &|x| (x.unsigned_abs() % 10).to_string());
         for z in layer.zs.clone() {
             line(&format!("z={z}"), &|x| {
                 layer.row_at(x, z).map_or(".".into(), |number| signs[number].clone())
@@ -219,5 +223,15 @@ g     glass
         let heads: Vec<_> = picture.lines().filter(|line| line.starts_with("y=")).collect();
         assert_eq!(heads, ["y=0, x from -3 to 33", "y=0, x from 34 to 70", "y=0, x from 71 to 79"]);
         assert!(picture.lines().all(|line| line.len() <= WIDEST));
+        // Over each column is the last digit of its x.
+        assert!(picture.lines().nth(1).is_some_and(|line| line.trim_start().starts_with("3 2 1 0 1 2 3 ")));
+    }
+
+    #[test]
+    fn bands_without_rows_are_left_out() {
+        let picture = picture_of("0,0,0 Solid\n0,1,0 Solid\n5000,0,0 RedstoneWire\n");
+        let heads: Vec<_> = picture.lines().filter(|line| line.starts_with("y=")).collect();
+        assert_eq!(heads.len(), 4, "{heads:?}");
+        assert!(heads[0].starts_with("y=0, x from 0 to ") && heads[1].ends_with(" to 5000"), "{heads:?}");
     }
 }

@@ -5,6 +5,7 @@ use std::fmt::{self, Display, Formatter};
 
 use redstone::{Circuit, Device, Figures, Kind, Refusal, Row, STATE_BYTES, Settled};
 
+use crate::course::Course;
 use crate::device::{SORTS, SWITCHED, States, given, is_candidate, place};
 use crate::hall::Hall;
 use crate::name::{block_name, counted, is_switch};
@@ -21,6 +22,9 @@ pub struct Run {
     pub outlook: Outlook,
     /// The switches that come after the last tick.
     pub later: Vec<Switch>,
+    /// The torches that are marked as candidates for burning out, each with the tick from which it is. The cycle that goes
+    /// on may mark one after the last tick.
+    pub candidates: Vec<(usize, usize)>,
 }
 
 /// What stands once a tick is done and its switches are set.
@@ -78,6 +82,9 @@ impl Frame {
     }
 }
 
+/// The ticks over which a torch's changes are counted, a bit of its state each.
+const COUNTED_TICKS: usize = 31;
+
 /// The bytes of a state that decide all that follows but the marks of torches: 0 to 3 of each row, and 9, which is 0 for
 /// every kind that there is now.
 fn deciding_bytes(state: &[u8]) -> Vec<u8> {
@@ -110,7 +117,38 @@ impl Run {
                 };
             }
         }
-        Ok(Self { rows: hall.rows.clone(), frames, outlook, later })
+        let mut run = Self { rows: hall.rows.clone(), frames, outlook, later, candidates: Vec::new() };
+        run.candidates = run.find_candidates(course)?;
+        Ok(run)
+    }
+
+    /// The candidates, with those that the cycle marks after the last tick and before the next switch.
+    fn find_candidates(&self, mut course: Course) -> Result<Vec<(usize, usize)>, Refusal> {
+        let in_run = |row: usize| {
+            self.frames.iter().position(|frame| is_candidate(frame.devices[row])).map(|tick| (row, tick))
+        };
+        let mut candidates: Vec<_> = (0..self.rows.len()).filter_map(in_run).collect();
+        let mut waiting: Vec<_> = (0..self.rows.len())
+            .filter(|row| self.rows[*row].kind() == Kind::RedstoneTorch && self.blinks(*row))
+            .filter(|row| candidates.iter().all(|(other, _)| other != row))
+            .collect();
+        // By then the changes that are counted have been those of every part of the cycle.
+        let end = self.cycle().map_or(0, |cycle| cycle.end + COUNTED_TICKS);
+        let next_switch = self.later.iter().map(|switch| switch.tick as usize).min();
+        let last = next_switch.unwrap_or(end).min(end);
+        for tick in self.frames.len()..=last {
+            if waiting.is_empty() {
+                break;
+            }
+            let frame = Frame::of(course.move_to(tick as u32)?, Vec::new());
+            waiting.retain(|row| {
+                let is_marked = is_candidate(frame.devices[*row]);
+                candidates.extend(is_marked.then_some((*row, tick)));
+                !is_marked
+            });
+        }
+        candidates.sort_unstable();
+        Ok(candidates)
     }
 
     /// The number of the last tick.
@@ -144,16 +182,6 @@ impl Run {
         lanes
     }
 
-    /// The torches that are marked as candidates for burning out, each with the tick from which it is.
-    #[must_use]
-    pub fn candidates(&self) -> Vec<(usize, usize)> {
-        let from = |row: usize| {
-            let is_marked = |frame: &Frame| is_candidate(frame.devices[row]);
-            self.frames.iter().position(is_marked).map(|tick| (row, tick))
-        };
-        (0..self.rows.len()).filter_map(from).collect()
-    }
-
     /// Whether two ticks differ in a figure, or in what a device gives.
     #[must_use]
     pub fn looks_different(&self, one: usize, other: usize) -> bool {
@@ -180,11 +208,6 @@ impl Run {
     }
 }
 
-/// The ticks that a repeater's delay counts as.
-pub(crate) fn delay_ticks(row: &Row) -> u8 {
-    row.delay().unwrap_or(1).clamp(1, 4)
-}
-
 /// What a row gives, tick by tick.
 #[derive(Clone, Debug)]
 pub struct Lane {
@@ -205,7 +228,7 @@ pub struct Lane {
 impl Lane {
     fn new(run: &Run, number: usize, row: &Row) -> Self {
         let label = match row.kind() {
-            Kind::Repeater => format!("{} delay {}", block_name(row), delay_ticks(row)),
+            Kind::Repeater => format!("{} delay {}", block_name(row), row.delay_ticks()),
             _ => block_name(row),
         };
         let place = place(row.kind());
@@ -242,8 +265,13 @@ impl Display for Run {
                 write!(f, "From tick {from} on the same {ticks} come again and again")?;
             }
             Outlook::Open => {
-                write!(f, "Up to tick {} no tick repeats an earlier one", self.last_tick())?;
-                return f.write_str(": ask for more with --ticks.");
+                match self.frames.iter().rposition(|frame| !frame.switches.is_empty()) {
+                    Some(switch) => {
+                        write!(f, "From the switch at tick {switch} up to tick {}", self.last_tick())?
+                    }
+                    None => write!(f, "Up to tick {}", self.last_tick())?,
+                }
+                return f.write_str(" no tick repeats an earlier one: ask for more with --ticks.");
             }
         }
         match self.later.iter().map(|switch| switch.tick).min() {
@@ -271,7 +299,7 @@ mod tests {
         let run = run("0,0,0 RedstoneBlock\n1,0,0 RedstoneWire\n", 5);
         assert_eq!(run.outlook, Outlook::Still { from: 0 });
         assert_eq!(run.to_string(), "From tick 0 on nothing changes.");
-        assert!(run.lanes().is_empty() && run.candidates().is_empty());
+        assert!(run.lanes().is_empty() && run.candidates.is_empty());
     }
 
     /// The toggle bits of a torch, which are new in every tick, and its mark are left out.
@@ -280,9 +308,28 @@ mod tests {
         let run = run(CLOCK, 20);
         assert_eq!(run.outlook, Outlook::Cycle { from: 0, ticks: 2 });
         assert_eq!(run.to_string(), "From tick 0 on the same 2 ticks come again and again.");
-        assert_eq!((run.candidates(), run.cycle()), (vec![(4, 8)], Some(0..2)));
+        assert_eq!((run.candidates.clone(), run.cycle()), (vec![(4, 8)], Some(0..2)));
         assert_eq!((0..6).filter(|row| run.blinks(*row)).collect::<Vec<_>>(), [2, 3, 4, 5]);
         assert!(run.looks_different(0, 1) && !run.looks_different(0, 2));
+    }
+
+    /// A slow clock marks its torch long after its cycle is known, and a switch may come before that.
+    #[test]
+    fn a_cycle_names_the_candidate_that_it_makes_after_the_last_tick() {
+        let slow = "0,0,0 Solid\n0,0,1 Repeater facing=North delay=3\n0,0,2 RedstoneWire\n\
+                    1,0,0 RedstoneTorch support=-1,0,0\n1,0,1 RedstoneWire\n1,0,2 RedstoneWire\n9,0,0 Lever\n";
+        for ticks in [8, 20, 31, 32, 40] {
+            let run = run(slow, ticks);
+            assert!(matches!(run.outlook, Outlook::Cycle { ticks: 8, .. }), "{:?}", run.outlook);
+            assert_eq!(run.candidates, [(3, 32)], "{ticks} ticks");
+        }
+        assert_eq!(run(&format!("{slow}switch tick 31 9,0,0 on\n"), 20).candidates, []);
+        assert_eq!(run(&format!("{slow}switch tick 32 9,0,0 on\n"), 20).candidates, [(3, 32)]);
+        // Too slow for eight changes within the ticks that are counted.
+        let slower = slow.replace("delay=3", "delay=4").replace("9,0,0 Lever\n", "");
+        let run = run(&slower, 40);
+        assert!(matches!(run.outlook, Outlook::Cycle { ticks: 10, .. }), "{:?}", run.outlook);
+        assert_eq!(run.candidates, []);
     }
 
     /// A repeater's queue is part of what decides, though nothing shows of it.
@@ -302,13 +349,27 @@ mod tests {
         );
     }
 
+    /// A switch changes no device at once: a lamp's light, or the ticks that it has left, are all that moves after it.
+    #[test]
+    fn a_lamp_that_answers_a_switch_is_not_still() {
+        let lamp = "0,0,0 RedstoneLamp\n0,1,0 Lever support=0,-1,0\nswitch tick 2 0,1,0 on\n";
+        assert_eq!(run(lamp, 20).outlook, Outlook::Still { from: 3 });
+        assert_eq!(run(&format!("{lamp}switch tick 6 0,1,0 off\n"), 20).outlook, Outlook::Still { from: 9 });
+    }
+
     #[test]
     fn a_run_that_is_too_short_says_so() {
         let open = run(&format!("{LOCK}switch tick 2 0,0,0 on\n"), 4);
         assert_eq!(open.outlook, Outlook::Open);
         assert_eq!(
             open.to_string(),
-            "Up to tick 4 no tick repeats an earlier one: ask for more with --ticks."
+            "From the switch at tick 2 up to tick 4 no tick repeats an earlier one: ask for more with --ticks."
+        );
+        // Before anything is switched, every tick counts.
+        let fresh = run(&LOCK.replace("Lever", "Lever powered=true"), 2);
+        assert_eq!(
+            fresh.to_string(),
+            "Up to tick 2 no tick repeats an earlier one: ask for more with --ticks."
         );
         let before = run(&format!("{LOCK}switch tick 9 0,0,0 on\n"), 4);
         assert_eq!(before.to_string(), "From tick 0 on nothing changes, until the switch at tick 9.");

@@ -151,8 +151,9 @@ impl Row {
         Self { delay: ticks.into(), ..self }
     }
 
-    /// The ticks that the delay counts as.
-    pub(crate) fn delay_ticks(&self) -> u8 {
+    /// The ticks that a repeater's delay counts as: 1 where it is missing or 0, and 4 above 4.
+    #[must_use]
+    pub fn delay_ticks(&self) -> u8 {
         self.delay.unwrap_or(1).clamp(1, 4)
     }
 

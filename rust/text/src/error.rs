@@ -2,6 +2,8 @@
 
 use std::fmt::{self, Display, Formatter};
 
+use crate::nearest;
+
 /// What is wrong with a text: the place, what was found there, and what was expected.
 #[derive(Clone, Debug, Eq, PartialEq)]
 pub struct Error {
@@ -56,14 +58,11 @@ impl Error {
         &self.known
     }
 
-    /// Of these words the one that what was found is a misspelling of: upper and lower case apart, at most a third of
-    /// the letters differ.
+    /// Of these words the one that what was found is a misspelling of, as [`nearest`](fn@crate::nearest) has it.
     #[must_use]
     pub fn nearest(&self) -> Option<&'static str> {
-        let found = self.found().to_lowercase();
-        let changes = |word: &'static str| (changes(&found, &word.to_lowercase()), word);
-        let (changes, word) = self.known.iter().copied().map(changes).min_by_key(|(changes, _)| *changes)?;
-        (changes <= (found.chars().count() + 1) / 3).then_some(word)
+        let (word, is_misspelt) = nearest(self.found(), self.known.iter().copied())?;
+        is_misspelt.then_some(word)
     }
 
     /// What was found and what was expected, without the place.
@@ -94,20 +93,3 @@ impl Display for Error {
 }
 
 impl std::error::Error for Error {}
-
-/// The fewest letters that are to be put in, left out or replaced to make one word the other.
-fn changes(one: &str, other: &str) -> usize {
-    let other: Vec<_> = other.chars().collect();
-    // For each beginning of the other word, the changes from what has been seen of the one.
-    let mut counts: Vec<_> = (0..=other.len()).collect();
-    for letter in one.chars() {
-        let mut replacing = counts[0];
-        counts[0] += 1;
-        for (at, wanted) in other.iter().enumerate() {
-            let replaced = replacing + usize::from(letter != *wanted);
-            replacing = counts[at + 1];
-            counts[at + 1] = replaced.min(counts[at] + 1).min(replacing + 1);
-        }
-    }
-    counts[other.len()]
-}

@@ -81,12 +81,14 @@
 
 mod error;
 mod line;
+mod nearest;
 mod row;
 mod step;
 mod table;
 
 pub use error::Error;
 pub use line::{Line, Word, Words, lines};
+pub use nearest::nearest;
 pub use row::{arms_text, position_text, read_row, row_text};
 pub use step::Step;
 pub use table::{Profile, Table, TableReader};

@@ -27,7 +27,6 @@ fn run(arguments: &Arguments, out: &mut dyn Write) -> Result<Status, Failure> {
     create(&file).map_err(|error| {
         Failure::sentence(match error.kind() {
             ErrorKind::AlreadyExists => format!("{name} is there already: take another name"),
-            ErrorKind::NotFound => format!("{name} could not be written: there is no such folder"),
             _ => unwritten(&name, &error),
         })
     })?;
@@ -38,11 +37,19 @@ fn run(arguments: &Arguments, out: &mut dyn Write) -> Result<Status, Failure> {
 /// NAME.hall, or NAME itself where it ends so.
 fn file_of(name: &OsStr) -> Result<PathBuf, Failure> {
     let path = Path::new(name);
-    match path.file_name() {
-        None => Err(Failure::sentence(format!("{} is no name for a file", path.display()))),
-        Some(_) if path.extension() == Some(OsStr::new("hall")) => Ok(path.to_owned()),
-        Some(_) => Ok(PathBuf::from([name, OsStr::new(".hall")].join(OsStr::new("")))),
+    // A slash at the end, which a path passes over, names a folder.
+    let is_name =
+        path.file_name().is_some_and(|last| name.as_encoded_bytes().ends_with(last.as_encoded_bytes()));
+    if !is_name {
+        let name = name.to_string_lossy();
+        return Err(Failure::sentence(format!(
+            "\"{name}\" is no name for a file: give one, as in `hall new door`"
+        )));
     }
+    if path.extension() == Some(OsStr::new("hall")) {
+        return Ok(path.to_owned());
+    }
+    Ok(PathBuf::from([name, OsStr::new(".hall")].join(OsStr::new(""))))
 }
 
 fn create(file: &Path) -> io::Result<()> {

@@ -4,8 +4,7 @@ use std::io::{self, IsTerminal, Write};
 
 use crate::arguments::Arguments;
 use crate::command::{Command, Failure, OUT, PROFILE, Status};
-use crate::name::counted;
-use crate::output::deliver;
+use crate::output::{deliver, tell_left_out};
 
 pub const COMMAND: Command = Command {
     name: "pack",
@@ -24,15 +23,6 @@ fn run(arguments: &Arguments, out: &mut dyn Write) -> Result<Status, Failure> {
         return Err(Failure::sentence("bytes are not for a terminal: name a file, as in -o hall.bin"));
     }
     deliver(&[hall.fresh.profile(), hall.fresh.table()].concat(), file, arguments.file()?, out)?;
-    out.flush()?;
-    let left = hall.switches.len() + hall.expectations.len();
-    if left > 0 {
-        // It changes nothing that this cannot be said.
-        let _ = writeln!(
-            io::stderr(),
-            "hall: {} with switches and expectations: the packed form has no place for them.",
-            counted(left, "line")
-        );
-    }
+    tell_left_out(&hall, "the packed form has no place for them", out)?;
     Ok(Status::Good)
 }

@@ -38,7 +38,7 @@ fn write_settled(name: &str, run: &Run, out: &mut dyn Write) -> Result<(), Failu
     let fresh = &run.frames[0];
     let rounds = fresh.settled.rounds().get() as usize;
     writeln!(out, "{name}: {}, settled in {}", counted(run.rows.len(), "block"), counted(rounds, "round"))?;
-    writeln!(out, "\nSettled levels\n")?;
+    writeln!(out, "\nSettled levels, tick 0, with the fresh devices\n")?;
     let positions: Vec<_> = run.rows.iter().map(|row| position_text(row.position())).collect();
     let width = positions.iter().map(String::len).max().unwrap_or(0).max("x,y,z".len());
     writeln!(out, "{:width$}  {:13}  signal  weak  strong", "x,y,z", "kind")?;
@@ -62,9 +62,8 @@ fn write_ticks(run: &Run, out: &mut dyn Write) -> Result<(), Failure> {
         writeln!(out, "none")?;
     }
     writeln!(out, "\n{run}")?;
-    let candidates: Vec<_> = run.candidates();
-    for (row, tick) in candidates {
-        let torch = block_name(&run.rows[row]);
+    for (row, tick) in &run.candidates {
+        let torch = block_name(&run.rows[*row]);
         writeln!(out, "Burn-out candidate: {torch}, from tick {tick} on.")?;
     }
     for switch in &run.later {

@@ -6,7 +6,7 @@ use redstone_text::Table;
 
 use crate::arguments::Arguments;
 use crate::command::{Command, Failure, OUT, PROFILE, Status};
-use crate::output::deliver;
+use crate::output::{deliver, tell_left_out};
 
 pub const COMMAND: Command = Command {
     name: "unpack",
@@ -14,7 +14,7 @@ pub const COMMAND: Command = Command {
     summary: "writes a hall in the text form",
     help: "\
 One line for each row, in the table's order, and before them `blocks=` and, where it is not the bench profile, `profile`.
-Packed again it gives the same bytes.",
+Packed again it gives the same bytes. Of a hall that is a text already, it leaves out comments, switches and expectations.",
     options: &[&PROFILE, &OUT],
     run,
 };
@@ -26,7 +26,8 @@ fn run(arguments: &Arguments, out: &mut dyn Write) -> Result<Status, Failure> {
         .profile()
         .try_into()
         .map_err(|_| Failure::sentence("the text form has no place for a profile of this length"))?;
-    let text = Table { profile, rows: hall.rows }.to_string();
+    let text = Table { profile, rows: hall.rows.clone() }.to_string();
     deliver(text.as_bytes(), arguments.option(&OUT), arguments.file()?, out)?;
+    tell_left_out(&hall, "the rows alone are written", out)?;
     Ok(Status::Good)
 }

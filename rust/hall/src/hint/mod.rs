@@ -8,10 +8,9 @@ use std::fmt::{self, Display, Formatter};
 use redstone::{Device, Facing, Kind, Refusal};
 
 use self::view::{SIDES, View};
-use crate::device::is_candidate;
 use crate::hall::Hall;
 use crate::name::{block_name, is_switch};
-use crate::run::{Frame, Run, delay_ticks};
+use crate::run::{Frame, Run};
 
 /// A circuit in which the game differs, and where the hall has it.
 #[derive(Clone, Debug, Eq, PartialEq)]
@@ -65,8 +64,8 @@ struct Rule {
 const RULES: &[Rule] = &[
     Rule {
         number: 1,
-        sentence: "it changes by itself after tick 0, while in the game it stands at rest; read the figures from \
-                   where nothing changes",
+        sentence: "it changes after tick 0 with nothing switched, since devices start fresh here and not as the game has \
+                   them at rest; read the figures from where nothing changes",
         holds: |view, row| view.changes_by_itself(row) && !view.run.blinks(row),
     },
     Rule {
@@ -146,18 +145,21 @@ const RULES: &[Rule] = &[
     },
     Rule {
         number: 12,
-        sentence: "it changes so often that it burns out in the game, and goes on here",
-        holds: |view, row| view.ever(|frame| is_candidate(frame.devices[row])),
+        sentence: "it changes so often that it is marked, and goes on here; in the game it burns out where it goes out \
+                   eight times within 30 ticks, coming on not counted (44)",
+        holds: |view, row| view.run.candidates.iter().any(|(torch, _)| *torch == row),
     },
     Rule {
         number: 13,
-        sentence: "it does nothing here; in the game it pushes blocks",
+        sentence: "it does nothing here; in the game it pushes blocks when it has power",
         holds: |view, row| view.kind(row) == Kind::Piston,
     },
     Rule {
         number: 15,
         sentence: "nothing holds it up, and it drops in the game",
-        holds: |view, row| view.unsupported.contains(&row) && view.row(row).support().is_some(),
+        holds: |view, row| {
+            view.lacks_floor(row) && !view.hangs_on_full_side(row) && !view.lies_on_piston(row)
+        },
     },
     Rule {
         number: 16,
@@ -181,18 +183,16 @@ const RULES: &[Rule] = &[
             let is_lower =
                 |frame: &Frame, block: usize| frame.figures(row).signal < frame.figures(block).strong.min(15);
             view.kind(row) == Kind::RedstoneWire
-                && view.ever(|frame| view.beside(row).any(|block| is_lower(frame, block)))
+                && view.beside(row).any(|block| {
+                    // What a redstone block powers has no power in the game (2).
+                    !view.powered_by_redstone_block(block) && view.ever(|frame| is_lower(frame, block))
+                })
         },
     },
     Rule {
         number: 19,
         sentence: "a weakly powered block is beside it, and lights it in the game, not here",
-        holds: |view, row| {
-            view.is_dark_lamp_while(row, |frame, block| {
-                let figures = frame.figures(block);
-                figures.weak > 0 && figures.strong == 0
-            })
-        },
+        holds: |view, row| view.is_dark_lamp_while(row, |frame, block| view.is_powered_by_dust(frame, block)),
     },
     Rule {
         number: 20,
@@ -258,14 +258,14 @@ const RULES: &[Rule] = &[
         number: 35,
         sentence: "it gives a pulse that is shorter than its delay; in the game it lasts as long as the delay",
         holds: |view, row| {
-            view.shortest(row, 1).is_some_and(|ticks| ticks < delay_ticks(view.row(row)).into())
+            view.shortest(row, 1).is_some_and(|ticks| ticks < view.row(row).delay_ticks().into())
         },
     },
     Rule {
         number: 36,
         sentence: "it is off for less than its delay; in the game it stays on",
         holds: |view, row| {
-            view.shortest(row, 0).is_some_and(|ticks| ticks < delay_ticks(view.row(row)).into())
+            view.shortest(row, 0).is_some_and(|ticks| ticks < view.row(row).delay_ticks().into())
         },
     },
     Rule {
@@ -283,13 +283,16 @@ const RULES: &[Rule] = &[
     Rule {
         number: 45,
         sentence: "without a support field the support list names it; in the game it rests on the block below",
-        holds: |view, row| {
-            view.unsupported.contains(&row) && view.row(row).support().is_none() && !is_fixed(view.kind(row))
-        },
+        holds: |view, row| view.unsupported.contains(&row) && !view.without_floor.contains(&row),
+    },
+    Rule {
+        number: 46,
+        sentence: "a bottom slab or stairs do not hold it here; in the game they do at a full side",
+        holds: |view, row| view.lacks_floor(row) && view.hangs_on_full_side(row),
+    },
+    Rule {
+        number: 47,
+        sentence: "a piston does not hold it here; in the game it does as long as it does not extend",
+        holds: |view, row| view.lacks_floor(row) && view.lies_on_piston(row),
     },
 ];
-
-/// Whether the kind holds on to any side of a block.
-fn is_fixed(kind: Kind) -> bool {
-    kind == Kind::RedstoneTorch || is_switch(kind)
-}

@@ -1,6 +1,6 @@
 //! A run, with what stands beside what.
 
-use redstone::{Arm, Device, Facing, Kind, Refusal, Row, Shape, redraw, rows};
+use redstone::{Arm, Circuit, Device, Facing, Kind, Refusal, Row, Shape, redraw, rows};
 
 use crate::device::place;
 use crate::hall::Hall;
@@ -21,13 +21,24 @@ fn opposite(facing: Facing) -> Facing {
     }
 }
 
+const BELOW: [i8; 3] = [0, -1, 0];
+
+/// The support offset; of what can only lie on the block below, that one for want of the field.
+fn support_in_game(row: &Row) -> Option<[i8; 3]> {
+    let lies = matches!(row.kind(), Kind::RedstoneWire | Kind::Repeater | Kind::Comparator);
+    row.support().or(lies.then_some(BELOW))
+}
+
 /// A run with what stands beside what.
 pub struct View<'a> {
     pub run: &'a Run,
     profile: &'a [u8],
     /// The rows after a redraw, which shows where a line of dust ends.
     redrawn: Vec<Row>,
+    /// The rows that the support list names.
     pub unsupported: Vec<usize>,
+    /// Those that it names even where dust, repeaters and comparators without a support field rest on the block below.
+    pub without_floor: Vec<usize>,
     /// For each row, the rows at its six sides, in the order of the facings.
     around: Vec<[Option<usize>; 6]>,
 }
@@ -41,11 +52,13 @@ impl<'a> View<'a> {
             let at = |facing: &Facing| find(&run.rows, moved(row.position(), step(*facing)));
             [0, 1, 2, 3, 4, 5].map(|number: usize| Facing::ALL.get(number).and_then(at))
         };
+        let resting = run.rows.iter().map(|row| row.with_support(support_in_game(row)));
         Ok(Self {
             run,
             profile: hall.fresh.profile(),
             redrawn,
             unsupported: hall.fresh.unsupported()?,
+            without_floor: Circuit::new(hall.fresh.profile(), resting)?.unsupported()?,
             around: run.rows.iter().map(around).collect(),
         })
     }
@@ -71,10 +84,36 @@ impl<'a> View<'a> {
         SIDES.into_iter().filter_map(move |side| self.at(row, side))
     }
 
+    fn at_step(&self, row: usize, step: [i8; 3]) -> Option<usize> {
+        find(&self.run.rows, moved(self.row(row).position(), step.map(i32::from)))
+    }
+
     /// The row at the support offset.
     pub fn support(&self, row: usize) -> Option<usize> {
-        let row = self.row(row);
-        find(&self.run.rows, moved(row.position(), row.support()?.map(i32::from)))
+        self.at_step(row, self.row(row).support()?)
+    }
+
+    /// Whether nothing holds a row at its support, which is known.
+    pub fn lacks_floor(&self, row: usize) -> bool {
+        support_in_game(self.row(row)).is_some() && self.without_floor.contains(&row)
+    }
+
+    /// Whether a lever is fixed under a bottom slab or bottom stairs, or a lever or torch at the side of such stairs.
+    pub fn hangs_on_full_side(&self, row: usize) -> bool {
+        let shape = self.support(row).map(|block| self.row(block).shape());
+        match (self.kind(row), self.row(row).support()) {
+            (Kind::Lever, Some([0, 1, 0])) => matches!(shape, Some(Shape::BottomSlab | Shape::BottomStairs)),
+            (Kind::Lever | Kind::RedstoneTorch, Some([-1 | 1, 0, 0] | [0, 0, -1 | 1])) => {
+                shape == Some(Shape::BottomStairs)
+            }
+            _ => false,
+        }
+    }
+
+    /// Whether a row is fixed to the top of a piston.
+    pub fn lies_on_piston(&self, row: usize) -> bool {
+        let below = self.at(row, Facing::Down).map(|block| self.kind(block));
+        support_in_game(self.row(row)) == Some(BELOW) && below == Some(Kind::Piston)
     }
 
     /// Where a repeater or comparator faces, if it is along the ground.
@@ -122,7 +161,8 @@ impl<'a> View<'a> {
     pub fn is_device_that_reads(&self, row: usize, block: usize) -> bool {
         match self.kind(row) {
             Kind::RedstoneTorch => self.support(row) == Some(block),
-            _ => self.input(row) == Some(block) || self.sides(row).any(|side| side == block),
+            Kind::Comparator => self.input(row) == Some(block) || self.sides(row).any(|side| side == block),
+            _ => self.input(row) == Some(block),
         }
     }
 
@@ -138,6 +178,15 @@ impl<'a> View<'a> {
 
     pub fn is_dust_with_power(&self, frame: &Frame, row: usize) -> bool {
         self.kind(row) == Kind::RedstoneWire && frame.figures(row).signal > 0
+    }
+
+    /// Whether a block has weak power alone, and dust gives it: dust that lies on it, or for want of a strongly powered
+    /// block beside it, which would give it here and not in the game (4).
+    pub fn is_powered_by_dust(&self, frame: &Frame, block: usize) -> bool {
+        let figures = frame.figures(block);
+        let over = self.at(block, Facing::Up).is_some_and(|dust| self.is_dust_with_power(frame, dust));
+        let strong_beside = self.around(block).any(|other| frame.figures(other).strong > 0);
+        figures.weak > 0 && figures.strong == 0 && (over || !strong_beside)
     }
 
     /// Whether a repeater or comparator beside a row is ever on and does not point at it.

@@ -80,8 +80,8 @@ fn facts(body: &mut String, run: &Run) {
     let (blocks, rounds) = (counted(run.rows.len(), "block"), counted(rounds, "round"));
     let _ = writeln!(body, "<ul class=\"facts\">\n<li>{blocks}, settled in {rounds}</li>");
     let _ = writeln!(body, "<li>{}</li>", escape(&run.to_string()));
-    for (row, tick) in run.candidates() {
-        let torch = block_name(&run.rows[row]);
+    for (row, tick) in &run.candidates {
+        let torch = block_name(&run.rows[*row]);
         let _ = writeln!(body, "<li class=\"warn\">Burn-out candidate: {torch}, from tick {tick} on</li>");
     }
     for switch in &run.later {

@@ -113,6 +113,7 @@ fn what_cannot_be_read_is_an_error_with_its_place() {
             13,
             "found \"0,1,0\", expected the position of a lamp: a lever stands there",
         ),
+        ("expect lamp 0, 0, 0 lit", 13, "found \"0,\", expected a position x,y,z"),
         ("expect weak 9,9,9 = 1", 13, "found \"9,9,9\", expected the position of a row: no row stands there"),
         ("expect lamp 0,0,0 litt", 19, "found \"litt\", expected a state: did you mean lit?"),
         ("expect lamp 0,0,0", 18, "found nothing, expected lit or dark"),

@@ -149,10 +149,53 @@ fn the_ticks_are_those_of_the_library() {
     assert!(switched > 20, "only {switched} tables have something to switch");
 }
 
+/// The expectations of a line of figures, with the values that it gives, or with others.
+fn expectations(line: &str, is_right: bool) -> String {
+    let fields: Vec<_> = line.split(',').collect();
+    let number = |at: usize| fields[at].parse::<u8>().expect("a byte") ^ u8::from(!is_right);
+    let level = |at: usize| format!("= {}", number(at));
+    let word = |at: usize, words: [&str; 2]| words[usize::from(number(at))].to_owned();
+    let mut all = vec![("signal", level(5)), ("weak", level(6)), ("strong", level(7))];
+    match fields[4] {
+        "RedstoneWire" => all.push(("dust", level(5))),
+        "Repeater" => all.push(("repeater", word(8, ["off", "on"]))),
+        "Comparator" => all.push(("comparator", level(8))),
+        "RedstoneLamp" => all.push(("lamp", word(10, ["dark", "lit"]))),
+        "RedstoneTorch" => {
+            all.extend([("torch", word(8, ["out", "lit"])), ("candidate", word(12, ["no", "yes"]))]);
+        }
+        _ => {}
+    }
+    let line =
+        |(figure, value)| format!("expect tick {} {figure} {} {value}\n", fields[0], fields[1..4].join(","));
+    all.into_iter().map(line).collect()
+}
+
+#[test]
+fn each_expectation_is_about_its_figure() {
+    let mut expected = 0;
+    for case in cases(120).filter(|case| (1..=100).contains(&case.rows())) {
+        let figures = as_library_gives(&case, 9, &[]);
+        let rows = hall_with(&["unpack", "-"], &[&case.profile[..], &case.table].concat());
+        for is_right in [true, false] {
+            let lines: String = figures.lines().map(|line| expectations(line, is_right)).collect();
+            let number = lines.lines().count();
+            let done = hall_with(&["check", "-"], format!("{}{lines}", rows.text()).as_bytes());
+            let head = match is_right {
+                true => format!("standard input: ok, {number} expectations"),
+                false => format!("standard input: DIFFERS, {number} of {number} expectations"),
+            };
+            assert_eq!(done.text().lines().next(), Some(head.as_str()), "{case}");
+            expected += number;
+        }
+    }
+    assert!(expected > 100_000, "only {expected} expectations");
+}
+
 /// What a run says of the ticks to come holds of as many again, and of no earlier tick.
 #[test]
 fn what_repeats_goes_on_so() {
-    let (mut still, mut cycles, mut open) = (0, 0, 0);
+    let (mut still, mut cycles, mut open, mut late) = (0, 0, 0, 0);
     let chosen = |case: &Case| case.rows() <= 200 && (case.sort == "clock" || case.seed < 150);
     for case in cases(1500).filter(chosen) {
         let hall = Hall::from_packed("a.bin", &case.profile, &case.table).expect("an accepted table");
@@ -167,6 +210,15 @@ fn what_repeats_goes_on_so() {
         };
         let differs = (from..=100 - ticks).find(|tick| long.looks_different(*tick, tick + ticks));
         assert_eq!(differs, None, "from {from}, {ticks} ticks\n{case}");
+        let deciding = |tick: usize| -> Vec<_> {
+            let states = long.frames[tick].devices.iter().map(Device::bytes);
+            states.map(|state| [state[0], state[1], state[2], state[3]]).collect()
+        };
+        assert_eq!(deciding(from), deciding(from + ticks), "from {from}, {ticks} ticks\n{case}");
+        if let Some(earlier) = from.checked_sub(1) {
+            assert_ne!(deciding(earlier), deciding(earlier + ticks), "from {from}, {ticks} ticks\n{case}");
+            late += 1;
+        }
         match run.outlook {
             Outlook::Still { .. } => still += 1,
             _ => {
@@ -180,7 +232,10 @@ fn what_repeats_goes_on_so() {
             }
         }
     }
-    assert!(still > 100 && cycles > 10, "{still} still, {cycles} cycles, {open} open");
+    assert!(
+        still > 100 && cycles > 10 && late > 30,
+        "{still} still, {cycles} cycles, {open} open, {late} late"
+    );
     println!(
         "\nhall's outlook: {still} tables come to rest, {cycles} go on in a cycle, {open} are open after 40 ticks"
     );

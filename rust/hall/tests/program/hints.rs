@@ -53,8 +53,8 @@ fn entries(document: &str) -> BTreeMap<u8, &str> {
 }
 
 /// Those that no hint is given of: what it takes is not in the table, or is rare.
-const WITHOUT: [u8; 24] =
-    [14, 26, 27, 28, 29, 30, 31, 32, 33, 37, 38, 39, 42, 43, 44, 46, 47, 48, 49, 50, 51, 52, 53, 54];
+const WITHOUT: [u8; 22] =
+    [14, 26, 27, 28, 29, 30, 31, 32, 33, 37, 38, 39, 42, 43, 44, 48, 49, 50, 51, 52, 53, 54];
 
 #[test]
 fn the_tables_of_an_entry_give_its_hint() {
@@ -96,6 +96,101 @@ fn tables_that_agree_give_no_hint_of_their_circuit() {
     };
     let found: Vec<_> = tables.iter().map(of_circuits).filter(|found| !found.is_empty()).collect();
     assert_eq!(found, [[16]]);
+}
+
+/// Each table is near to one that a hint is given of, and the game does as the bench does, or otherwise for another reason.
+#[test]
+fn what_the_game_does_too_gets_no_hint() {
+    for (table, none, instead) in [
+        // A lever's block powers the next one here alone, and nothing reads that: the repeater runs past it.
+        (
+            "0,0,0 Solid\n0,1,0 Lever support=0,-1,0 powered=true\n1,0,0 Solid\n1,0,1 Repeater facing=East\n",
+            &[4][..],
+            None,
+        ),
+        // Dust beside a block that only a redstone block powers, here alone.
+        ("0,0,0 RedstoneBlock\n1,0,0 Solid\n2,0,0 RedstoneWire\n", &[18], Some(2)),
+        // A lamp beside a block that only a strongly powered one powers, here alone.
+        (
+            "0,0,0 Solid\n0,1,0 Lever support=0,-1,0 powered=true\n1,0,0 Solid\n2,0,0 RedstoneLamp\n",
+            &[19],
+            None,
+        ),
+        // The same with dust on that block, which lights the lamp in the game.
+        (
+            "0,0,0 Solid\n0,1,0 Lever support=0,-1,0 powered=true\n1,0,0 Solid\n1,1,0 RedstoneWire\n\
+             2,0,0 RedstoneLamp\n",
+            &[],
+            Some(19),
+        ),
+        // Dust with no field and no block below, and with a slab there that holds nothing, drops.
+        ("0,0,0 RedstoneWire\n", &[45], Some(15)),
+        ("0,0,0 Solid shape=bottom_slab\n0,1,0 RedstoneWire\n", &[45, 46], Some(15)),
+        // What hangs at a slab or stairs, or lies on a piston, does not.
+        ("0,0,0 Lever support=0,1,0\n0,1,0 Solid shape=bottom_slab\n", &[15], Some(46)),
+        ("0,0,0 Solid shape=bottom_stairs\n1,0,0 RedstoneTorch support=-1,0,0\n", &[15], Some(46)),
+        ("0,0,0 Piston\n0,1,0 RedstoneWire\n", &[15, 45], Some(47)),
+        // A torch hangs from no ceiling, and no bottom slab has a full side.
+        ("0,0,0 RedstoneTorch support=0,1,0\n0,1,0 Solid shape=bottom_slab\n", &[46], Some(15)),
+        ("0,0,0 Solid shape=bottom_slab\n1,0,0 Lever support=-1,0,0\n", &[46], Some(15)),
+        // Repeaters that point at what reads them, and one that is never on.
+        ("0,0,0 Repeater facing=East powered=true\n1,0,0 Repeater facing=East\n", &[7], None),
+        ("0,0,0 Repeater facing=East powered=true\n1,0,0 Comparator facing=East\n", &[8], None),
+        ("1,0,0 Comparator facing=East\n1,0,1 Repeater facing=North powered=true\n", &[8], None),
+        ("0,0,0 Repeater facing=North\n1,0,0 Repeater facing=East\n", &[7], None),
+        // Nobody has pressed them, or stands on them.
+        ("0,0,0 Button support=0,-1,0\n2,0,0 PressurePlate support=0,-1,0\n", &[10, 11], None),
+        // Dust without power, at a line's end and alone.
+        ("0,0,0 Lever\n1,0,0 RedstoneWire\n2,0,0 RedstoneLamp\n", &[16], None),
+        ("0,0,0 RedstoneWire\n1,0,0 RedstoneLamp\n", &[17], None),
+        // Levers that are off, beside a lamp and at a comparator's side, with an unpowered block at the other.
+        ("0,0,0 Lever support=0,-1,0\n1,0,0 RedstoneLamp\n", &[20], None),
+        ("0,0,-1 Lever\n0,0,0 Comparator facing=East\n0,0,1 Solid\n", &[24, 25], None),
+        // A torch that is out under a block, and torches on a lamp, which they do not light.
+        (
+            "0,0,0 Solid\n0,1,0 Lever support=0,-1,0 powered=true\n1,0,0 RedstoneTorch support=-1,0,0 powered=false\n\
+             1,1,0 Solid\n",
+            &[22],
+            None,
+        ),
+        (
+            "0,0,0 RedstoneLamp\n0,1,0 RedstoneTorch support=0,-1,0\n1,0,0 RedstoneTorch support=-1,0,0\n",
+            &[23],
+            None,
+        ),
+        // Of a pulse that the run's first or last tick cuts off it is not known how long it is.
+        ("0,0,0 Repeater facing=East powered=true delay=2\n", &[34, 35], None),
+        ("0,0,0 Lever\n1,0,0 Repeater facing=East delay=2\nswitch tick 38 0,0,0 on\n", &[34, 35], None),
+        // A lamp that a repeater powers keeps the game's time.
+        (
+            "0,0,0 Lever\n1,0,0 Repeater facing=East\n2,0,0 RedstoneLamp\nswitch tick 3 0,0,0 on\n\
+             switch tick 9 0,0,0 off\n",
+            &[40, 41],
+            None,
+        ),
+    ] {
+        let found = numbers(table);
+        assert!(none.iter().all(|number| !found.contains(number)), "{found:?}:\n{table}");
+        assert!(instead.is_none_or(|number| found.contains(&number)), "{found:?}:\n{table}");
+    }
+}
+
+/// In the game no torch burns out in the clock of entry 44, so that the hint does not say that it does.
+#[test]
+fn a_marked_torch_need_not_burn_out() {
+    let document = document();
+    let table = &tables(entries(&document)[&44])[0];
+    let hall = Hall::from_text("a.hall", table, None).expect("a hall");
+    for ticks in [20, 40] {
+        let run = Run::new(&hall, ticks).expect("an accepted table");
+        let hints = hints(&hall, &run).expect("an accepted table");
+        let hint = hints.iter().find(|hint| hint.number == 12).expect("a hint of the torch");
+        assert_eq!(
+            hint.to_string(),
+            "torch 1,0,0: it changes so often that it is marked, and goes on here; in the game it burns out where it \
+             goes out eight times within 30 ticks, coming on not counted (44)"
+        );
+    }
 }
 
 #[test]

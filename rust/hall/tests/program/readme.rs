@@ -3,7 +3,7 @@
 use std::fs;
 use std::process::Command;
 
-use crate::support::{Done, folder, hall, root, run};
+use crate::support::{Done, folder, hall, hall_with, root, run};
 
 fn readme() -> String {
     fs::read_to_string(root().join("README.md")).expect("README.md")
@@ -63,9 +63,47 @@ fn each_command_and_each_figure_is_named() {
     for command in commands {
         assert!(section.contains(&format!("`hall {command} ")), "README.md lacks {command}");
     }
-    let figures = hall(&["check", "halls/fading-line.hall", "--help"]);
-    for figure in "dust comparator signal weak strong lamp torch candidate repeater rounds blocks".split(' ')
-    {
-        assert!(figures.text().contains(figure) && section.contains(figure), "{figure}");
+    // The words that can be expected, as the error of another one lists them.
+    let error = hall_with(&["check", "-"], b"0,0,0 Solid\nexpect colour 0,0,0 red\n");
+    let (_, listed) = error.text().split_once("expected a figure: ").expect("a list");
+    let listed = listed.lines().next().expect("a line").replace(" or ", ", ");
+    let help = hall(&["check", "--help"]);
+    for figure in listed.split(", ") {
+        assert!(help.text().contains(figure) && grammar(section).contains(figure), "{figure}");
     }
+}
+
+/// The block of the section that has the forms of expectations.
+fn grammar(section: &str) -> &str {
+    blocks(section).into_iter().find(|block| block.starts_with("expect [tick N]")).expect("the forms")
+}
+
+/// Each form, with and without `tick N` and with each of its words, is read.
+#[test]
+fn the_forms_of_expectations_are_read() {
+    const ROWS: &str =
+        "0,0,0 RedstoneWire\n1,0,0 Comparator\n2,0,0 Repeater\n3,0,0 RedstoneTorch\n4,0,0 RedstoneLamp\n";
+    let readme = readme();
+    let mut lines = String::new();
+    for form in grammar(section(&readme)).lines() {
+        let form = form.split("  ").next().expect("a form").trim();
+        let form = form.replace("LEVEL", "1").replace("NUMBER", "1");
+        let place = match form.split(' ').nth(3) {
+            Some("comparator") => "1,0,0",
+            Some("repeater") => "2,0,0",
+            Some("torch" | "candidate") => "3,0,0",
+            Some("lamp") => "4,0,0",
+            _ => "0,0,0",
+        };
+        let (start, last) = form.rsplit_once(' ').expect("words");
+        for word in last.split('|') {
+            let line = format!("{start} {word}\n").replace("x,y,z", place);
+            lines += &line.replace("[tick N] ", "");
+            lines += &line.replace("[tick N]", "tick 3");
+        }
+    }
+    let expected = lines.lines().count();
+    assert!(expected >= 2 * 9, "{lines}");
+    let done = hall_with(&["check", "-"], format!("{ROWS}{lines}").as_bytes());
+    assert!(done.text().contains(&format!(" of {expected} expectations\n")), "{}", done.text());
 }

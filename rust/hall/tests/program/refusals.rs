@@ -143,9 +143,29 @@ fn another_profile_is_taken_for_the_file() {
         let end = if sentence.ends_with('?') { "" } else { "." };
         assert_eq!((done.status, done.err), (Some(2), format!("hall: {profile}{sentence}{end}\n")));
     }
+    // The file at fault is named, and no hall.
     let short = file("profile_short", "short.bin", [0; 12]);
-    let done = hall(&["run", "halls/vault-door.hall", "--profile", &short]);
-    assert!(done.err.starts_with("hall: halls/vault-door.hall: refusal 1, profile: "), "{}", done.err);
+    let large = file("profile_large", "large.txt", "profile Solid=32\n");
+    for name in [&short, &large] {
+        for command in ["run", "check"] {
+            let done = hall(&[command, "halls/vault-door.hall", "--profile", name]);
+            assert_eq!((done.status, done.text()), (Some(2), ""), "{command}");
+            assert!(done.err.starts_with(&format!("hall: {name}: refusal 1, profile: ")), "{}", done.err);
+        }
+    }
+}
+
+#[test]
+fn a_file_that_ends_within_its_profile_is_refused_with_another_profile_too() {
+    let profile = file("profile_bench", "bench.bin", BENCH_PROFILE);
+    for length in [1, 12] {
+        let bytes = packed(|bytes| bytes.truncate(length));
+        let done = hall_with(&["run", "-", "--profile", &profile], &bytes);
+        assert_eq!((done.status, done.text()), (Some(2), ""), "{length} bytes");
+        assert_eq!(done.err, format!("hall: standard input: {}{PACKED}.\n", refusal(&bytes)));
+    }
+    let whole = hall_with(&["unpack", "-", "--profile", &profile], &packed(|bytes| bytes.truncate(13)));
+    assert_eq!((whole.status, whole.text()), (Some(0), "blocks=0\n"), "{}", whole.err);
 }
 
 #[test]

@@ -10,12 +10,14 @@ fn every_sample_is_equal_after_it_is_packed_and_unpacked() {
     for sample in samples() {
         let (packed, text, again) = (path("a.bin"), path("a.hall"), path("b.bin"));
         let words = hall(&["pack", &sample, "-o", &packed]);
-        assert!(words.err.ends_with("the packed form has no place for them.\n"), "{}", words.err);
-        assert_eq!(hall(&["unpack", &packed, "-o", &text]).status, Some(0));
+        assert!(words.err.ends_with(" left out: the packed form has no place for them.\n"), "{}", words.err);
+        assert_eq!(hall(&["unpack", &packed, "-o", &text]).err, "");
         assert_eq!(hall(&["pack", &text, "-o", &again]).err, "");
         assert_eq!(std::fs::read(&packed).expect("a file"), std::fs::read(&again).expect("a file"));
-        // The rows of the text are those of the sample.
-        assert_eq!(hall(&["unpack", &sample]).out, std::fs::read(&text).expect("a file"));
+        // The rows of the text are those of the sample, and of its other lines it is said that they are not there.
+        let rows = hall(&["unpack", &sample]);
+        assert_eq!(rows.out, std::fs::read(&text).expect("a file"));
+        assert!(rows.err.ends_with(" left out: the rows alone are written.\n"), "{}", rows.err);
         assert_eq!(hall(&["csv", &packed, "--ticks=0"]).out, hall(&["csv", &text, "--ticks=0"]).out);
     }
 }

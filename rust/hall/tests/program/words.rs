@@ -16,6 +16,8 @@ fn a_sentence_says_what_to_do() {
         (&["run", LAMP, "--fast"], "--fast is not an option of `hall run`: see `hall run --help`."),
         (&["new", "--fast"], "--fast is not an option of `hall new`, which has none."),
         (&["run", LAMP, "--ticks"], "--ticks has no value: give --ticks N."),
+        (&["csv", LAMP, "-o", "--ticks=5"], "-o has no value: give -o FILE."),
+        (&["run", "--ticks", "--switch", "1:0,1,0=on", LAMP], "--ticks has no value: give --ticks N."),
         (&["run", LAMP, "--ticks", "x"], "--ticks: found \"x\", expected a whole number from 0 to 10000."),
         (&["run", LAMP, "--ticks=3", "--ticks=4"], "--ticks is given twice: give it once."),
         (
@@ -48,14 +50,21 @@ fn a_sentence_says_what_to_do() {
         ),
         (
             &["pack", LAMP, "-o", "halls/none/a.bin"],
-            "halls/none/a.bin could not be written: No such file or directory (os error 2).",
+            "halls/none/a.bin could not be written: there is no such folder.",
         ),
+        (&["pack", LAMP, "-o", "halls"], "halls could not be written: it is a folder, so name a file in it."),
         (&["new", "halls/none/a"], "halls/none/a.hall could not be written: there is no such folder."),
-        (&["new", ".."], ".. is no name for a file."),
+        (&["new", ".."], "\"..\" is no name for a file: give one, as in `hall new door`."),
+        (&["new", "halls/"], "\"halls/\" is no name for a file: give one, as in `hall new door`."),
+        (&["new", ""], "\"\" is no name for a file: give one, as in `hall new door`."),
         (&["new"], "no name is given: give one, as in `hall new door`."),
         (
             &["run", "--", "--ticks"],
             "--ticks: there is no such file: look at its name, or begin one with `hall new`.",
+        ),
+        (
+            &["run", "--", "--help"],
+            "--help: there is no such file: look at its name, or begin one with `hall new`.",
         ),
     ] {
         let done = hall(words);

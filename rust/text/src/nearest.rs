@@ -1,9 +1,16 @@
 //! The word that another is a misspelling of.
 
-/// Of these words the one with the fewest changes to a word, and whether they are so few that it is a misspelling.
-pub(crate) fn nearest<'a>(word: &str, known: impl Iterator<Item = &'a str>) -> Option<(&'a str, bool)> {
-    let (changes, nearest) =
-        known.map(|known| (changes(word, known), known)).min_by_key(|(changes, _)| *changes)?;
+/// Of these words the one with the fewest changes to a word, upper and lower case apart, and whether the word is a
+/// misspelling of it: at most a third of its letters are changed.
+///
+/// ```
+/// assert_eq!(redstone_text::nearest("Chekc", ["run", "check"]), Some(("check", true)));
+/// assert_eq!(redstone_text::nearest("fly", ["run", "check"]), Some(("run", false)));
+/// ```
+pub fn nearest<'a>(word: &str, known: impl IntoIterator<Item = &'a str>) -> Option<(&'a str, bool)> {
+    let word = word.to_lowercase();
+    let with_changes = |known: &'a str| (changes(&word, &known.to_lowercase()), known);
+    let (changes, nearest) = known.into_iter().map(with_changes).min_by_key(|(changes, _)| *changes)?;
     Some((nearest, 3 * changes <= word.chars().count() + 1))
 }
 
@@ -51,8 +58,10 @@ mod tests {
     #[test]
     fn the_nearest_word_is_a_misspelling_or_not() {
         let known = ["run", "levels", "check"];
-        assert_eq!(nearest("rnu", known.into_iter()), Some(("run", true)));
-        assert_eq!(nearest("fly", known.into_iter()), Some(("run", false)));
-        assert_eq!(nearest("run", [].into_iter()), None);
+        assert_eq!(nearest("rnu", known), Some(("run", true)));
+        assert_eq!(nearest("LEVELS", known), Some(("levels", true)));
+        assert_eq!(nearest("fly", known), Some(("run", false)));
+        assert_eq!(nearest("", known), Some(("run", false)));
+        assert_eq!(nearest("run", []), None);
     }
 }
