@@ -2,13 +2,14 @@
 
 use std::fmt::{self, Display, Formatter};
 
-use redstone::{Block, Circuit, Kind, Refusal, Rounds, Row};
+use redstone::{Kind, Refusal, Rounds, Row};
 use redstone_text::{Error, Line, Word, Words, position_text};
 
 use crate::MOST_TICKS;
 use crate::device::{given, is_candidate};
 use crate::hall::Hall;
 use crate::name::{Position, find, kind_name};
+use crate::run::{Frame, Run};
 use crate::switch::not_there;
 
 /// The word that begins a line with an expectation.
@@ -20,7 +21,7 @@ struct Subject {
     /// The kind that the row has to have; any where there is none.
     kind: Option<Kind>,
     values: Values,
-    given: fn(&Block) -> u8,
+    given: fn(&Frame, usize) -> u8,
 }
 
 /// What may be expected of a figure.
@@ -38,50 +39,50 @@ const SUBJECTS: &[Subject] = &[
         word: "dust",
         kind: Some(Kind::RedstoneWire),
         values: Values::Levels(15),
-        given: |block| block.figures.signal,
+        given: |frame, row| frame.figures(row).signal,
     },
     Subject {
         word: "repeater",
         kind: Some(Kind::Repeater),
         values: Values::Words(["off", "on"]),
-        given: |block| block.device.byte(),
+        given: |frame, row| frame.devices[row].byte(),
     },
     Subject {
         word: "torch",
         kind: Some(Kind::RedstoneTorch),
         values: Values::Words(["out", "lit"]),
-        given: |block| block.device.byte(),
+        given: |frame, row| frame.devices[row].byte(),
     },
     Subject {
         word: "candidate",
         kind: Some(Kind::RedstoneTorch),
         values: Values::Words(["no", "yes"]),
-        given: |block| is_candidate(block.device).into(),
+        given: |frame, row| is_candidate(frame.devices[row]).into(),
     },
     Subject {
         word: "comparator",
         kind: Some(Kind::Comparator),
         values: Values::Levels(u8::MAX),
-        given: |block| block.device.byte(),
+        given: |frame, row| frame.devices[row].byte(),
     },
     Subject {
         word: "lamp",
         kind: Some(Kind::RedstoneLamp),
         values: Values::Words(["dark", "lit"]),
-        given: |block| given(block.device).unwrap_or_default(),
+        given: |frame, row| given(frame.devices[row]).unwrap_or_default(),
     },
     Subject {
         word: "signal",
         kind: None,
         values: Values::Levels(u8::MAX),
-        given: |block| block.figures.signal,
+        given: |frame, row| frame.figures(row).signal,
     },
-    Subject { word: "weak", kind: None, values: Values::Levels(u8::MAX), given: |block| block.figures.weak },
+    Subject { word: "weak", kind: None, values: Values::Levels(u8::MAX), given: |frame, row| frame.figures(row).weak },
     Subject {
         word: "strong",
         kind: None,
         values: Values::Levels(u8::MAX),
-        given: |block| block.figures.strong,
+        given: |frame, row| frame.figures(row).strong,
     },
 ];
 
@@ -153,13 +154,13 @@ impl Expectation {
         }
     }
 
-    /// The number that a circuit gives.
-    fn given(&self, circuit: &Circuit) -> u32 {
+    /// The number that a frame of these rows gives.
+    fn given(&self, rows: &[Row], frame: &Frame) -> u32 {
         match self.about {
-            About::Rounds => circuit.rounds().get(),
-            About::Blocks => circuit.len() as u32,
+            About::Rounds => frame.settled.rounds().get(),
+            About::Blocks => rows.len() as u32,
             About::Row(subject, position) => {
-                circuit.at(position).map_or(0, |block| (subject.given)(&block).into())
+                find(rows, position).map_or(0, |row| (subject.given)(frame, row).into())
             }
         }
     }
@@ -244,18 +245,28 @@ pub struct Met {
     pub is_met: bool,
 }
 
-/// What the calls give for each expectation of a hall, in the order of their lines.
+/// What the calls give for each expectation of a hall, in the order of their lines. `run` is a run of the hall; it goes on
+/// after its last tick where something is expected there.
 ///
 /// # Errors
 ///
 /// None: no call refuses what it has accepted.
-pub fn meet(hall: &Hall) -> Result<Vec<Met>, Refusal> {
+pub fn meet(hall: &Hall, run: &Run) -> Result<Vec<Met>, Refusal> {
     let mut expectations = hall.expectations.clone();
     expectations.sort_by_key(|expectation| expectation.tick);
-    let mut course = hall.course()?;
+    let mut later = None;
     let mut all = Vec::with_capacity(expectations.len());
     for expectation in expectations {
-        let given = expectation.given(course.move_to(expectation.tick)?);
+        let given = match run.frames.get(expectation.tick as usize) {
+            Some(frame) => expectation.given(&hall.rows, frame),
+            None => {
+                let course = match &mut later {
+                    Some(course) => course,
+                    None => later.insert(hall.course()?),
+                };
+                expectation.given(&hall.rows, &Frame::of(course.move_to(expectation.tick)?, Vec::new()))
+            }
+        };
         let is_met = given == expectation.value;
         all.push(Met { expectation, given: expectation.value_text(given), is_met });
     }

@@ -3,7 +3,7 @@
 use std::ffi::OsStr;
 use std::fs::File;
 use std::io::{self, ErrorKind, Read};
-use std::path::Path;
+use std::path::{Path, PathBuf};
 
 use redstone::{Circuit, MOST_ROWS, PROFILE_BYTES, ROW_BYTES};
 use redstone_text::{Profile, TableReader, lines};
@@ -100,15 +100,23 @@ fn contents(file: &OsStr, name: &str) -> Result<Vec<u8>, Refused> {
 
 fn unreadable(file: &Path, error: &io::Error) -> String {
     match error.kind() {
-        ErrorKind::NotFound => {
-            "there is no such file: look at its name, or begin one with `hall new`".to_owned()
-        }
+        ErrorKind::NotFound => match with_ending(file) {
+            Some(other) => format!("there is no such file: did you mean {}?", other.display()),
+            None => "there is no such file: look at its name, or begin one with `hall new`".to_owned(),
+        },
         ErrorKind::IsADirectory => {
             format!("this is a folder: name files, as in {}", file.join("*.hall").display())
         }
         ErrorKind::PermissionDenied => "it may not be read: see who may with `ls -l`".to_owned(),
         _ => format!("it cannot be read: {error}"),
     }
+}
+
+/// The file that has the name with the ending of halls, if there is one.
+fn with_ending(file: &Path) -> Option<PathBuf> {
+    let mut name = file.as_os_str().to_owned();
+    name.push(".hall");
+    Some(PathBuf::from(name)).filter(|file| file.is_file())
 }
 
 /// A text has no zero byte, and a profile has one at its front.

@@ -1,17 +1,24 @@
 //! The word that another is a misspelling of.
 
 /// Of these words the one with the fewest changes to a word, upper and lower case apart, and whether the word is a
-/// misspelling of it: at most a third of its letters are changed.
+/// misspelling of it: at most a third of its letters are changed, or it is a part of it with three letters or more.
 ///
 /// ```
 /// assert_eq!(redstone_text::nearest("Chekc", ["run", "check"]), Some(("check", true)));
+/// assert_eq!(redstone_text::nearest("Lamp", ["Lever", "RedstoneLamp"]), Some(("RedstoneLamp", true)));
 /// assert_eq!(redstone_text::nearest("fly", ["run", "check"]), Some(("run", false)));
 /// ```
 pub fn nearest<'a>(word: &str, known: impl IntoIterator<Item = &'a str>) -> Option<(&'a str, bool)> {
     let word = word.to_lowercase();
-    let with_changes = |known: &'a str| (changes(&word, &known.to_lowercase()), known);
-    let (changes, nearest) = known.into_iter().map(with_changes).min_by_key(|(changes, _)| *changes)?;
-    Some((nearest, 3 * changes <= word.chars().count() + 1))
+    let letters = word.chars().count();
+    let compare = |known: &'a str| {
+        let lower = known.to_lowercase();
+        let changes = changes(&word, &lower);
+        let is_near = 3 * changes <= letters + 1 || letters >= 3 && lower.contains(&word);
+        (!is_near, changes, known)
+    };
+    let (is_far, _, nearest) = known.into_iter().map(compare).min()?;
+    Some((nearest, !is_far))
 }
 
 /// The fewest letters to be put in, left out, replaced, or changed over with the next, to make one word the other.

@@ -8,10 +8,13 @@ use std::sync::atomic::{AtomicBool, AtomicUsize, Ordering};
 use std::sync::mpsc::{self, Receiver, RecvTimeoutError};
 use std::thread;
 
-use crate::Refused;
+use redstone::Refusal;
+
+use crate::{DEFAULT_TICKS, Hall, Refused, Run};
 use crate::arguments::Arguments;
 use crate::command::{Command, Failure, PROFILE, Status};
 use crate::expect::{Met, meet};
+use crate::hint::hints;
 use crate::input::{self, is_standard_input};
 use crate::name::counted;
 use crate::progress::{self, Progress};
@@ -31,7 +34,8 @@ A file may have lines with expectations beside its rows:
 Without `tick` an expectation is about tick 0. Each may be about: dust, comparator, signal, weak or strong, with a position
 and a level; lamp (lit, dark), torch (lit, out), candidate (yes, no) or repeater (on, off), with a position; rounds or
 blocks. A line that cannot be read, or that speaks of a position where no such block stands, is an error.
-Each file has a line: ok, DIFFERS or REFUSED. The files are run on all cores, and their lines stand in the order given.",
+Each file has a line: ok, DIFFERS or REFUSED, with the number of hints that `hall run` gives, where the game is known to
+differ. The files are run on all cores, and their lines stand in the order given.",
     options: &[&PROFILE],
     run,
 };
@@ -105,40 +109,52 @@ struct Checked {
     status: Status,
     expectations: usize,
     differences: usize,
+    hints: usize,
     text: String,
 }
 
 impl Checked {
     fn of(file: &OsStr, profile: Option<&[u8]>) -> Self {
         let found = input::read(file, profile).and_then(|hall| {
-            let met = meet(&hall).map_err(|refusal| Refused::file(&hall.name, refusal.to_string()))?;
-            Ok((hall.name, met))
+            let (met, hints) =
+                run_hall(&hall).map_err(|refusal| Refused::file(&hall.name, refusal.to_string()))?;
+            Ok((hall.name, met, hints))
         });
         match found {
-            Ok((name, met)) => Self::met(&name, &met),
+            Ok((name, met, hints)) => Self::met(&name, &met, hints),
             Err(refused) => Self::refused(&refused),
         }
     }
 
-    fn met(name: &str, met: &[Met]) -> Self {
+    fn met(name: &str, met: &[Met], hints: usize) -> Self {
         let differing: Vec<_> = met.iter().filter(|met| !met.is_met).collect();
         let expectations = counted(met.len(), "expectation");
         let mut text = match (met.len(), differing.len()) {
-            (0, _) => format!("{name}: ok, nothing is expected\n"),
-            (_, 0) => format!("{name}: ok, {expectations}\n"),
-            (_, differences) => format!("{name}: DIFFERS, {differences} of {expectations}\n"),
+            (0, _) => format!("{name}: ok, nothing is expected"),
+            (_, 0) => format!("{name}: ok, {expectations}"),
+            (_, differences) => format!("{name}: DIFFERS, {differences} of {expectations}"),
         };
+        if hints > 0 {
+            let _ = write!(text, "; {}, see `hall run {name}`", counted(hints, "hint"));
+        }
+        text.push('\n');
         for met in &differing {
             let _ = writeln!(text, "    {name}:{}: {met}", met.expectation.line);
         }
         let status = if differing.is_empty() { Status::Good } else { Status::Differs };
-        Self { status, expectations: met.len(), differences: differing.len(), text }
+        Self { status, expectations: met.len(), differences: differing.len(), hints, text }
     }
 
     fn refused(refused: &Refused) -> Self {
         let text = format!("{}: REFUSED\n    {refused}\n", refused.file);
-        Self { status: Status::Refused, expectations: 0, differences: 0, text }
+        Self { status: Status::Refused, expectations: 0, differences: 0, hints: 0, text }
     }
+}
+
+/// What a hall's expectations are given, and how many hints its run has.
+fn run_hall(hall: &Hall) -> Result<(Vec<Met>, usize), Refusal> {
+    let run = Run::new(hall, DEFAULT_TICKS)?;
+    Ok((meet(hall, &run)?, hints(hall, &run)?.len()))
 }
 
 /// The sum at the end.
@@ -147,11 +163,12 @@ struct Sum {
     files: [usize; 3],
     expectations: usize,
     differences: usize,
+    hints: usize,
 }
 
 impl Default for Sum {
     fn default() -> Self {
-        Self { status: Status::Good, files: [0; 3], expectations: 0, differences: 0 }
+        Self { status: Status::Good, files: [0; 3], expectations: 0, differences: 0, hints: 0 }
     }
 }
 
@@ -161,6 +178,7 @@ impl Sum {
         self.files[found.status as usize] += 1;
         self.expectations += found.expectations;
         self.differences += found.differences;
+        self.hints += found.hints;
     }
 }
 
@@ -169,6 +187,10 @@ impl std::fmt::Display for Sum {
         let [good, differing, refused] = self.files;
         let files = counted(good + differing + refused, "file");
         write!(f, "{files}: {good} ok, {differing} DIFFERS, {refused} REFUSED; ")?;
-        write!(f, "{}, {} not met", counted(self.expectations, "expectation"), self.differences)
+        write!(f, "{}, {} not met", counted(self.expectations, "expectation"), self.differences)?;
+        match self.hints {
+            0 => Ok(()),
+            hints => write!(f, "; {}", counted(hints, "hint")),
+        }
     }
 }

@@ -1,6 +1,6 @@
 //! `hall report`: a page of a hall.
 
-use std::io::Write;
+use std::io::{self, IsTerminal, Write};
 
 use crate::arguments::Arguments;
 use crate::command::{Command, Failure, OUT, PROFILE, SWITCH, Status, TICKS};
@@ -21,6 +21,9 @@ the status of `hall check`. Of a file that is refused it gives the reason.",
 
 fn run(arguments: &Arguments, out: &mut dyn Write) -> Result<Status, Failure> {
     let (input, file) = (arguments.file()?, arguments.option(&OUT));
+    if file.is_none() && io::stdout().is_terminal() {
+        return Err(Failure::sentence("a page is not for a terminal: name a file, as in -o hall.html"));
+    }
     let hall = match arguments.hall() {
         Err(Failure::Refused(refused)) => {
             deliver(refused_page(&refused).as_bytes(), file, input, out)?;
@@ -28,7 +31,8 @@ fn run(arguments: &Arguments, out: &mut dyn Write) -> Result<Status, Failure> {
         }
         other => other?,
     };
-    let (run, met) = (arguments.run(&hall)?, meet(&hall)?);
+    let run = arguments.run(&hall)?;
+    let met = meet(&hall, &run)?;
     deliver(page(&hall, &run, &met)?.as_bytes(), file, input, out)?;
     Ok(if met.iter().all(|met| met.is_met) { Status::Good } else { Status::Differs })
 }

@@ -30,7 +30,8 @@ pub fn page(hall: &Hall, run: &Run, met: &[Met]) -> Result<String, Refusal> {
         (all, wrong) => ("differs", format!("DIFFERS: {wrong} of {}", counted(all, "expectation"))),
     };
     let mut body = head(&hall.name, class, &verdict);
-    facts(&mut body, run);
+    let hints = hint::hints(hall, run)?;
+    facts(&mut body, run, hints.len());
     if !differing.is_empty() {
         body += "<section class=\"differences\">\n";
         expectations(&mut body, differing.iter().copied());
@@ -47,7 +48,7 @@ pub fn page(hall: &Hall, run: &Run, met: &[Met]) -> Result<String, Refusal> {
         expectations(&mut body, met);
         body += "</div></section>\n";
     }
-    hint_list(&mut body, &hint::hints(hall, run)?);
+    hint_list(&mut body, &hints);
     figures(&mut body, run);
     Ok(document(&format!("{}: {verdict}", hall.name), &body))
 }
@@ -75,7 +76,7 @@ fn head(name: &str, class: &str, verdict: &str) -> String {
     format!("<header><h1>{name}</h1>\n<p class=\"verdict {class}\">{verdict}</p></header>\n")
 }
 
-fn facts(body: &mut String, run: &Run) {
+fn facts(body: &mut String, run: &Run, hints: usize) {
     let rounds = run.frames[0].settled.rounds().get() as usize;
     let (blocks, rounds) = (counted(run.rows.len(), "block"), counted(rounds, "round"));
     let _ = writeln!(body, "<ul class=\"facts\">\n<li>{blocks}, settled in {rounds}</li>");
@@ -86,6 +87,10 @@ fn facts(body: &mut String, run: &Run) {
     }
     for switch in &run.later {
         let _ = writeln!(body, "<li class=\"warn\">Not shown: tick {} switch {switch}</li>", switch.tick);
+    }
+    if hints > 0 {
+        let hints = counted(hints, "hint");
+        let _ = writeln!(body, "<li class=\"warn\">{hints}: the game is known to differ, see below</li>");
     }
     *body += "</ul>\n";
 }
@@ -117,7 +122,7 @@ fn pictures(body: &mut String, hall: &Hall, run: &Run, differing: &[&Met]) -> Re
             Outlook::Cycle { from, .. } if from as usize <= last => {
                 ", one of those that come again and again".to_owned()
             }
-            _ => String::new(),
+            _ => ", the last that is not as tick 0".to_owned(),
         };
         let _ = writeln!(body, "<section><h2>Tick {last}{note}</h2>");
         *body += &layers::pictures(run, last, &marks);
