@@ -30,23 +30,31 @@ fn settle() -> OsString {
     program
 }
 
-/// What `settle` writes, made of the lines of `hall csv` for tick 0 and of the first line of `hall run`.
+/// What `settle` writes, made of what `hall run` shows of tick 0. The columns of `hall csv` are the same.
 fn as_settle_writes(input: &[u8]) -> String {
-    let csv = hall_with(&["csv", "-", "--ticks=0"], input);
-    if csv.status != Some(0) {
-        return csv.err;
-    }
     let shown = hall_with(&["run", "-", "--ticks=0"], input);
-    let head = shown.text().lines().next().expect("a line");
-    let (blocks, rounds) = head.split_once(", settled in ").expect("blocks and rounds");
+    if shown.status != Some(0) {
+        return shown.err;
+    }
+    let mut lines = shown.text().lines();
+    let (blocks, rounds) = lines.next().and_then(|head| head.split_once(", settled in ")).expect("a head");
     let number = |text: &str| text.split(' ').find(|word| word.parse::<u32>().is_ok()).map(str::to_owned);
     let blocks = number(blocks.rsplit(": ").next().expect("blocks")).expect("a number");
-    let mut text = format!("blocks={blocks}\nrounds={}\n", number(rounds).expect("a number"));
-    for line in csv.text().lines().skip(1) {
+    let head = format!("blocks={blocks}\nrounds={}\n", number(rounds).expect("a number"));
+    let table =
+        lines.skip_while(|line| !line.starts_with("x,y,z ")).skip(1).take_while(|line| !line.is_empty());
+    let row = |line: &str| {
+        let words: Vec<_> = line.split_whitespace().collect();
+        format!("row={},{}\n", words[0], words[2..].join(","))
+    };
+    let rows: String = table.map(row).collect();
+    let csv = hall_with(&["csv", "-", "--ticks=0"], input);
+    let of_columns = |line: &str| {
         let fields: Vec<_> = line.split(',').collect();
-        text += &format!("row={},{}\n", fields[1..4].join(","), fields[5..8].join(","));
-    }
-    text
+        format!("row={},{}\n", fields[1..4].join(","), fields[5..8].join(","))
+    };
+    assert_eq!(rows, csv.text().lines().skip(1).map(of_columns).collect::<String>());
+    head + &rows
 }
 
 #[test]

@@ -138,6 +138,11 @@ fn what_the_game_does_too_gets_no_hint() {
         ("0,0,0 Repeater facing=East powered=true\n1,0,0 Comparator facing=East\n", &[8], None),
         ("1,0,0 Comparator facing=East\n1,0,1 Repeater facing=North powered=true\n", &[8], None),
         ("0,0,0 Repeater facing=North\n1,0,0 Repeater facing=East\n", &[7], None),
+        // One that points elsewhere has its number by what reads it.
+        ("0,0,0 Repeater facing=North powered=true\n1,0,0 Repeater facing=East\n", &[8], Some(7)),
+        ("0,0,0 Repeater facing=North powered=true\n1,0,0 Comparator facing=East\n", &[7], Some(8)),
+        // A lamp that a redstone block lights, with nothing beside it.
+        ("0,0,0 RedstoneBlock\n1,0,0 RedstoneLamp\n", &[2, 3], None),
         // Nobody has pressed them, or stands on them.
         ("0,0,0 Button support=0,-1,0\n2,0,0 PressurePlate support=0,-1,0\n", &[10, 11], None),
         // Dust without power, at a line's end and alone.
