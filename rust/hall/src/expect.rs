@@ -77,7 +77,12 @@ const SUBJECTS: &[Subject] = &[
         values: Values::Levels(u8::MAX),
         given: |frame, row| frame.figures(row).signal,
     },
-    Subject { word: "weak", kind: None, values: Values::Levels(u8::MAX), given: |frame, row| frame.figures(row).weak },
+    Subject {
+        word: "weak",
+        kind: None,
+        values: Values::Levels(u8::MAX),
+        given: |frame, row| frame.figures(row).weak,
+    },
     Subject {
         word: "strong",
         kind: None,

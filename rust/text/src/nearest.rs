@@ -1,7 +1,7 @@
 //! The word that another is a misspelling of.
 
 /// Of these words the one with the fewest changes to a word, upper and lower case apart, and whether the word is a
-/// misspelling of it: at most a third of its letters are changed, or it is a part of it with three letters or more.
+/// misspelling of it: at most a third of its letters are changed, or it is its end, with three letters or more.
 ///
 /// ```
 /// assert_eq!(redstone_text::nearest("Chekc", ["run", "check"]), Some(("check", true)));
@@ -14,10 +14,10 @@ pub fn nearest<'a>(word: &str, known: impl IntoIterator<Item = &'a str>) -> Opti
     let compare = |known: &'a str| {
         let lower = known.to_lowercase();
         let changes = changes(&word, &lower);
-        let is_near = 3 * changes <= letters + 1 || letters >= 3 && lower.contains(&word);
-        (!is_near, changes, known)
+        let is_far = 3 * changes > letters + 1 && !(letters >= 3 && lower.ends_with(&word));
+        ((is_far, changes), known)
     };
-    let (is_far, _, nearest) = known.into_iter().map(compare).min()?;
+    let ((is_far, _), nearest) = known.into_iter().map(compare).min_by_key(|(distance, _)| *distance)?;
     Some((nearest, !is_far))
 }
 

@@ -140,7 +140,7 @@ fn errors_in_other_lines_of_a_table() {
     ]);
 }
 
-/// A word is misspelt where few of its letters are wrong, and then the nearest is named.
+/// A word is misspelt where few of its letters are wrong, or its beginning is left out, and then the nearest is named.
 #[test]
 fn a_misspelt_word_has_its_nearest() {
     let nearest = |kind: &str| {
@@ -154,10 +154,12 @@ fn a_misspelt_word_has_its_nearest() {
         ("redstone_lamp", "RedstoneLamp"),
         ("RedstneTrch", "RedstoneTorch"),
         ("Compartor", "Comparator"),
+        ("Lamp", "RedstoneLamp"),
+        ("torch", "RedstoneTorch"),
     ] {
         assert_eq!(nearest(kind), Some(meant), "{kind}");
     }
-    for kind in ["Le", "Stone", "Lamp", "Comprtr", "Tür"] {
+    for kind in ["Le", "Stone", "Redstone", "Comprtr", "Tür"] {
         assert_eq!(nearest(kind), None, "{kind}");
     }
 }

@@ -10,7 +10,6 @@ use std::thread;
 
 use redstone::Refusal;
 
-use crate::{DEFAULT_TICKS, Hall, Refused, Run};
 use crate::arguments::Arguments;
 use crate::command::{Command, Failure, PROFILE, Status};
 use crate::expect::{Met, meet};
@@ -18,6 +17,7 @@ use crate::hint::hints;
 use crate::input::{self, is_standard_input};
 use crate::name::counted;
 use crate::progress::{self, Progress};
+use crate::{DEFAULT_TICKS, Hall, Refused, Run};
 
 pub const COMMAND: Command = Command {
     name: "check",
@@ -135,7 +135,7 @@ impl Checked {
             (_, differences) => format!("{name}: DIFFERS, {differences} of {expectations}"),
         };
         if hints > 0 {
-            let _ = write!(text, "; {}, see `hall run {name}`", counted(hints, "hint"));
+            let _ = write!(text, "; {}, see `hall run`", counted(hints, "hint"));
         }
         text.push('\n');
         for met in &differing {

@@ -98,7 +98,7 @@ const RULES: &[Rule] = &[
     },
     Rule {
         number: 5,
-        sentence: "without a support field it never goes out here; in the game it goes out by its block",
+        sentence: "without a support field it never goes out here; in the game it goes out by its block: write support=",
         holds: |view, row| view.kind(row) == Kind::RedstoneTorch && view.row(row).support().is_none(),
     },
     Rule {
@@ -163,7 +163,8 @@ const RULES: &[Rule] = &[
     },
     Rule {
         number: 16,
-        sentence: "a line of dust ends at it, and powers it in the game, not here",
+        sentence: "a line of dust ends at it, and powers it in the game, not here, unless the last dust has an arm to it: \
+                   for a line from the West write arms=West:Side,East:Side",
         holds: |view, row| {
             view.takes_power(row)
                 && SIDES
@@ -173,7 +174,8 @@ const RULES: &[Rule] = &[
     },
     Rule {
         number: 17,
-        sentence: "dust that stands alone is beside it, and powers it in the game, not here",
+        sentence: "dust that stands alone is beside it, and powers it in the game, not here, unless its arms are written: \
+                   arms=North:Side,East:Side,South:Side,West:Side",
         holds: |view, row| view.takes_power(row) && view.beside(row).any(|dust| view.is_alone(dust)),
     },
     Rule {
@@ -205,12 +207,13 @@ const RULES: &[Rule] = &[
     },
     Rule {
         number: 21,
-        sentence: "without a support field it powers no block here; in the game it powers the block that holds it",
+        sentence: "without a support field it powers no block here; in the game it powers the block that holds it: write \
+                   support=",
         holds: |view, row| is_switch(view.kind(row)) && view.row(row).support().is_none(),
     },
     Rule {
         number: 22,
-        sentence: "a block is over it, and takes its power in the game, not here",
+        sentence: "a block is over it, and takes its power in the game, not here: lead dust from the torch",
         holds: |view, row| {
             view.kind(row) == Kind::RedstoneTorch
                 && view.ever_gives(row)
@@ -219,7 +222,7 @@ const RULES: &[Rule] = &[
     },
     Rule {
         number: 23,
-        sentence: "a lit torch is beside it, and lights it in the game, not here",
+        sentence: "a lit torch is beside it, and lights it in the game, not here: lead dust from the torch",
         holds: |view, row| {
             view.is_dark_lamp_while(row, |frame, block| {
                 let is_lit = matches!(frame.devices[block], Device::Torch { lit: true, .. });
@@ -294,5 +297,13 @@ const RULES: &[Rule] = &[
         number: 47,
         sentence: "a piston does not hold it here; in the game it does as long as it does not extend",
         holds: |view, row| view.lacks_floor(row) && view.lies_on_piston(row),
+    },
+    Rule {
+        number: 56,
+        sentence: "it does not face North, East, South or West, so that it reads nothing and gives nothing on: write facing=",
+        holds: |view, row| {
+            let is_diode = matches!(view.kind(row), Kind::Repeater | Kind::Comparator);
+            is_diode && !view.row(row).facing().is_some_and(|facing| SIDES.contains(&facing))
+        },
     },
 ];

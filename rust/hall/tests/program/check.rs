@@ -47,7 +47,8 @@ expect weak 0,0,0 = 0
     assert_eq!(
         done.text(),
         format!(
-            "{name}: ok, 18 expectations\n1 file: 1 ok, 0 DIFFERS, 0 REFUSED; 18 expectations, 0 not met\n"
+            "{name}: ok, 18 expectations; 3 hints, see `hall run`\n\
+             1 file: 1 ok, 0 DIFFERS, 0 REFUSED; 18 expectations, 0 not met; 3 hints\n"
         )
     );
 
@@ -75,7 +76,12 @@ expect weak 0,0,0 = 0
     let (done, name) = check("check_wrong", &wrong);
     assert_eq!((done.status, done.err.as_str()), (Some(1), ""));
     let lines: Vec<_> = done.text().lines().collect();
-    assert_eq!(lines[0], format!("{name}: DIFFERS, 18 of 18 expectations"), "{}", done.text());
+    assert_eq!(
+        lines[0],
+        format!("{name}: DIFFERS, 18 of 18 expectations; 3 hints, see `hall run`"),
+        "{}",
+        done.text()
+    );
     assert_eq!(lines.len(), 20, "{}", done.text());
     for (at, expected, given) in [
         (0, "blocks = 7", "6"),
@@ -90,7 +96,7 @@ expect weak 0,0,0 = 0
         let line = format!("    {name}:{}: expected {expected}, given {given}", 9 + at);
         assert_eq!(lines[1 + at], line);
     }
-    assert_eq!(lines[19], "1 file: 0 ok, 1 DIFFERS, 0 REFUSED; 18 expectations, 18 not met");
+    assert_eq!(lines[19], "1 file: 0 ok, 1 DIFFERS, 0 REFUSED; 18 expectations, 18 not met; 3 hints");
 }
 
 #[test]
@@ -172,9 +178,9 @@ fn the_largest_status_counts_and_the_order_is_that_of_the_names() {
     assert_eq!(heads.len(), 61);
     for (number, name) in names.iter().enumerate() {
         let word = if number % 7 == 3 { "DIFFERS, 1 of 1 expectation" } else { "ok, 1 expectation" };
-        assert_eq!(heads[number], format!("{name}: {word}"));
+        assert_eq!(heads[number], format!("{name}: {word}; 1 hint, see `hall run`"));
     }
-    assert_eq!(heads[60], "60 files: 51 ok, 9 DIFFERS, 0 REFUSED; 60 expectations, 9 not met");
+    assert_eq!(heads[60], "60 files: 51 ok, 9 DIFFERS, 0 REFUSED; 60 expectations, 9 not met; 60 hints");
     assert_eq!(done(&[names[0].clone(), path("none.hall"), names[3].clone()]).status, Some(2));
     assert_eq!(done(&names[..3]).status, Some(0));
 }

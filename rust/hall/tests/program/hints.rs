@@ -48,13 +48,14 @@ fn document() -> String {
 fn entries(document: &str) -> BTreeMap<u8, &str> {
     let parts = document.split("\n### ").skip(1);
     parts
+        .filter_map(|part| part.split("\n## ").next())
         .map(|part| (part.split('.').next().and_then(|number| number.parse().ok()).expect("a number"), part))
         .collect()
 }
 
 /// Those that no hint is given of: what it takes is not in the table, or is rare.
-const WITHOUT: [u8; 22] =
-    [14, 26, 27, 28, 29, 30, 31, 32, 33, 37, 38, 39, 42, 43, 44, 48, 49, 50, 51, 52, 53, 54];
+const WITHOUT: [u8; 23] =
+    [14, 26, 27, 28, 29, 30, 31, 32, 33, 37, 38, 39, 42, 43, 44, 48, 49, 50, 51, 52, 53, 54, 55];
 
 #[test]
 fn the_tables_of_an_entry_give_its_hint() {
@@ -62,7 +63,7 @@ fn the_tables_of_an_entry_give_its_hint() {
     let entries = entries(&document);
     let mut with = BTreeSet::new();
     for (number, entry) in &entries {
-        if WITHOUT.contains(number) || *number == 55 {
+        if WITHOUT.contains(number) {
             continue;
         }
         let tables = tables(entry);
@@ -77,8 +78,7 @@ fn the_tables_of_an_entry_give_its_hint() {
             }
         }
     }
-    let all: BTreeSet<_> =
-        entries.keys().copied().filter(|number| !WITHOUT.contains(number) && *number != 55).collect();
+    let all: BTreeSet<_> = entries.keys().copied().filter(|number| !WITHOUT.contains(number)).collect();
     assert_eq!(with, all);
 }
 
@@ -96,6 +96,25 @@ fn tables_that_agree_give_no_hint_of_their_circuit() {
     };
     let found: Vec<_> = tables.iter().map(of_circuits).filter(|found| !found.is_empty()).collect();
     assert_eq!(found, [[16]]);
+}
+
+/// `hall check` counts what `hall run` lists.
+#[test]
+fn a_check_says_how_many_hints_a_run_has() {
+    let mut with = 0;
+    for sample in samples() {
+        let listed = hall(&["run", &sample]).text().lines().filter(|line| line.starts_with("hint ")).count();
+        let done = hall(&["check", &sample]);
+        let head = done.text().lines().next().unwrap_or_default();
+        let counted = match listed {
+            0 => "expectations".to_owned(),
+            1 => "1 hint, see `hall run`".to_owned(),
+            _ => format!("{listed} hints, see `hall run`"),
+        };
+        assert!(head.ends_with(&counted), "{head}");
+        with += usize::from(listed > 0);
+    }
+    assert!(with > 0);
 }
 
 /// Each table is near to one that a hint is given of, and the game does as the bench does, or otherwise for another reason.
@@ -206,6 +225,6 @@ fn hints_stand_after_the_figures_and_apart() {
     assert!(hints.contains("\nhint 12: torch 1,1,0: "), "{hints}");
     for sample in samples() {
         assert!(!hall(&["csv", &sample]).text().contains("hint"));
-        assert!(!hall(&["check", &sample]).text().contains("hint"));
+        assert!(!hall(&["check", &sample]).text().contains("hint "));
     }
 }

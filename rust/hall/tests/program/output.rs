@@ -50,6 +50,24 @@ fn a_standard_output_that_is_only_for_reading() {
     assert!(said.starts_with("hall: standard output could not be written: Bad file descriptor"), "{said}");
 }
 
+/// Where there is no `script`, nothing stands in for a terminal.
+#[test]
+fn pages_and_bytes_are_not_for_a_terminal() {
+    for (command, sentence) in [
+        ("report", "hall: a page is not for a terminal: name a file, as in -o hall.html."),
+        ("pack", "hall: bytes are not for a terminal: name a file, as in -o hall.bin."),
+    ] {
+        let line = format!("{} {command} halls/slab-rise.hall", env!("CARGO_BIN_EXE_hall"));
+        let mut script = Command::new("script");
+        script.args(["-qec", &line, "/dev/null"]);
+        if script.output().is_err() {
+            return;
+        }
+        let done = run(&mut script, b"");
+        assert_eq!((done.status, done.text().trim_end()), (Some(2), sentence));
+    }
+}
+
 #[test]
 fn a_pipe_that_nobody_reads() {
     let mut running = Command::new(env!("CARGO_BIN_EXE_hall"))

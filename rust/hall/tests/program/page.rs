@@ -176,6 +176,20 @@ fn a_page_shows_what_differs_and_ends_with_status_1() {
     );
 }
 
+/// The second picture is of the last tick that is not as tick 0, and says so where the run comes back to it.
+#[test]
+fn a_page_says_why_it_shows_a_tick() {
+    let lever = "0,0,0 RedstoneLamp\n0,1,0 Lever support=0,-1,0\nswitch tick 2 0,1,0 on\n";
+    for (lines, head) in [
+        ("", "<h2>Tick 20, as from tick 3 on</h2>"),
+        ("switch tick 5 0,1,0 off\n", "<h2>Tick 7, the last that is not as tick 0</h2>"),
+    ] {
+        let name = file("page_ticks", "a.hall", format!("{lever}{lines}"));
+        let done = hall(&["report", &name]);
+        assert!(done.text().contains(head), "{head} in {:?}", done.text().find("<h2>Tick "));
+    }
+}
+
 #[test]
 fn a_page_of_every_kind_and_shape_is_well_formed() {
     let kinds = "Solid Transparent RedstoneWire RedstoneTorch Repeater Comparator Lever Button PressurePlate RedstoneLamp \

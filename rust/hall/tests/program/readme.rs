@@ -105,5 +105,5 @@ fn the_forms_of_expectations_are_read() {
     let expected = lines.lines().count();
     assert!(expected >= 2 * 9, "{lines}");
     let done = hall_with(&["check", "-"], format!("{ROWS}{lines}").as_bytes());
-    assert!(done.text().contains(&format!(" of {expected} expectations\n")), "{}", done.text());
+    assert!(done.text().contains(&format!(" of {expected} expectations; ")), "{}", done.text());
 }

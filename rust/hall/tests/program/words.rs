@@ -59,6 +59,10 @@ fn a_sentence_says_what_to_do() {
         (&["new", ""], "\"\" is no name for a file: give one, as in `hall new door`."),
         (&["new"], "no name is given: give one, as in `hall new door`."),
         (
+            &["run", "halls/repeater-lock"],
+            "halls/repeater-lock: there is no such file: did you mean halls/repeater-lock.hall?",
+        ),
+        (
             &["run", "--", "--ticks"],
             "--ticks: there is no such file: look at its name, or begin one with `hall new`.",
         ),
