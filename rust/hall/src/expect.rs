@@ -139,6 +139,9 @@ impl Expectation {
         let (about, value, place) = match (subject, first.text) {
             (Some(subject), _) => {
                 let place = words.expect("a position x,y,z")?;
+                if place.text.contains('=') {
+                    return Err(place.expected("a position x,y,z, and blanks around ="));
+                }
                 let position = place.position()?;
                 (About::Row(subject, position), subject.values.read(&mut words)?, Some(place))
             }

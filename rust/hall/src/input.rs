@@ -94,7 +94,7 @@ fn contents(file: &OsStr, name: &str) -> Result<Vec<u8>, Refused> {
     } else {
         File::open(file).and_then(|opened| opened.take(most).read_to_end(&mut bytes))
     };
-    read.map_err(|error| Refused::file(name, unreadable(Path::new(file), &error)))?;
+    read.map_err(|error| Refused::unread(name, unreadable(Path::new(file), &error)))?;
     Ok(bytes)
 }
 

@@ -12,12 +12,19 @@ pub struct Refused {
     pub place: Option<(usize, Option<usize>)>,
     /// What is wrong.
     pub message: String,
+    /// Whether the file was read, and it is what it holds that is refused.
+    pub is_read: bool,
 }
 
 impl Refused {
     /// Of a whole file.
     pub(crate) fn file(file: &str, message: impl Into<String>) -> Self {
-        Self { file: file.to_owned(), place: None, message: message.into() }
+        Self { file: file.to_owned(), place: None, message: message.into(), is_read: true }
+    }
+
+    /// Of a file that could not be read.
+    pub(crate) fn unread(file: &str, message: impl Into<String>) -> Self {
+        Self { is_read: false, ..Self::file(file, message) }
     }
 
     /// Of a line of a file.

@@ -14,7 +14,7 @@ pub const COMMAND: Command = Command {
     summary: "writes a page with pictures, charts and events, to read and to print",
     help: "\
 The page is one file and needs no other and no script. It shows what is expected beside what is given, and so ends with
-the status of `hall check`. Of a file that is refused it gives the reason.",
+the status of `hall check`. Of a file that is refused it gives the reason; of one that cannot be read\nno page is written, and an older one stays.",
     options: &[&OUT, &TICKS, &SWITCH, &PROFILE],
     run,
 };
@@ -25,7 +25,7 @@ fn run(arguments: &Arguments, out: &mut dyn Write) -> Result<Status, Failure> {
         return Err(Failure::sentence("a page is not for a terminal: name a file, as in -o hall.html"));
     }
     let hall = match arguments.hall() {
-        Err(Failure::Refused(refused)) => {
+        Err(Failure::Refused(refused)) if refused.is_read => {
             deliver(refused_page(&refused).as_bytes(), file, input, out)?;
             return Err(refused.into());
         }

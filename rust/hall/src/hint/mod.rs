@@ -65,7 +65,7 @@ const RULES: &[Rule] = &[
     Rule {
         number: 1,
         sentence: "it changes after tick 0 with nothing switched, since devices start fresh here and not as the game has \
-                   them at rest; read the figures from where nothing changes",
+                   them at rest; expect it from the tick on at which it rests, or have it start so by powered= or level=",
         holds: |view, row| view.changes_by_itself(row) && !view.run.blinks(row),
     },
     Rule {
@@ -164,7 +164,8 @@ const RULES: &[Rule] = &[
     Rule {
         number: 16,
         sentence: "a line of dust ends at it, and powers it in the game, not here, unless the last dust has an arm to it: \
-                   for a line from the West write arms=West:Side,East:Side",
+                   write arms=West:Side,East:Side in the row of that dust if the line comes from the West, \
+                   arms=North:Side,South:Side if from the North, and so on",
         holds: |view, row| {
             view.takes_power(row)
                 && SIDES
@@ -300,7 +301,8 @@ const RULES: &[Rule] = &[
     },
     Rule {
         number: 56,
-        sentence: "it does not face North, East, South or West, so that it reads nothing and gives nothing on: write facing=",
+        sentence: "it does not face North, East, South or West, so that it reads nothing and gives nothing on: write the \
+                   side of its output, as in facing=East",
         holds: |view, row| {
             let is_diode = matches!(view.kind(row), Kind::Repeater | Kind::Comparator);
             is_diode && !view.row(row).facing().is_some_and(|facing| SIDES.contains(&facing))

@@ -124,6 +124,7 @@ fn what_cannot_be_read_is_an_error_with_its_place() {
         ("expect lamp 0,0,0 litt", 19, "found \"litt\", expected a state: did you mean lit?"),
         ("expect lamp 0,0,0", 18, "found nothing, expected lit or dark"),
         ("expect lamp 0,0,0 lit now", 23, "found \"now\", expected the end of the line"),
+        ("expect dust 1,1,0=7", 13, "found \"1,1,0=7\", expected a position x,y,z, and blanks around ="),
         ("expect dust 1,1,0 =7", 19, "found \"=7\", expected = and a number, with blanks between"),
         ("expect dust 1,1,0 7", 19, "found \"7\", expected = and a number, with blanks between"),
         ("expect dust 1,1,0 = 16", 21, "found \"16\", expected a whole number from 0 to 15"),

@@ -168,6 +168,19 @@ fn a_file_that_ends_within_its_profile_is_refused_with_another_profile_too() {
     assert_eq!((whole.status, whole.text()), (Some(0), "blocks=0\n"), "{}", whole.err);
 }
 
+/// A mistyped name costs no page that was there.
+#[test]
+fn a_file_that_cannot_be_read_leaves_an_older_page() {
+    let page = folder("older_page").join("a.html");
+    fs::write(&page, "the older page").expect("a file");
+    let done = hall(&["report", "halls/vault-door", "-o", page.to_str().expect("UTF-8")]);
+    assert_eq!(
+        (done.status, done.err.as_str()),
+        (Some(2), "hall: halls/vault-door: there is no such file: did you mean halls/vault-door.hall?\n")
+    );
+    assert_eq!(fs::read_to_string(&page).expect("a file"), "the older page");
+}
+
 #[test]
 fn a_folder_a_missing_file_and_a_locked_one() {
     let done = hall(&["run", "halls"]);
