@@ -5,12 +5,11 @@ use std::fmt::{self, Display, Formatter};
 use redstone::{Kind, Refusal, Rounds, Row};
 use redstone_text::{Error, Line, Word, Words, position_text};
 
-use crate::MOST_TICKS;
 use crate::device::{given, is_candidate};
 use crate::hall::Hall;
 use crate::name::{Position, find, kind_name};
 use crate::run::{Frame, Run};
-use crate::switch::not_there;
+use crate::switch::{TICK, after_tick, not_there};
 
 /// The word that begins a line with an expectation.
 pub(crate) const EXPECT: &str = "expect";
@@ -127,14 +126,9 @@ impl Expectation {
     pub(crate) fn read(line: Line<'_>) -> Result<Placed<'_>, Error> {
         let mut words = line.words();
         words.expect(EXPECT)?;
-        let mut first = words.expect("a figure")?;
-        let mut tick = 0;
-        if first.text == "tick" {
-            tick = words.expect("a tick's number")?.number(0..=MOST_TICKS)?;
-            first = words.expect("a figure")?;
-        }
+        let (tick, first) = after_tick(&mut words, "a figure")?;
         let subjects = SUBJECTS.iter().map(|subject| (subject.word, Some(subject)));
-        let known = [(ROUNDS, None), (BLOCKS, None), ("tick", None)];
+        let known = [(ROUNDS, None), (BLOCKS, None), (TICK, None)];
         let subject = first.one_of("a figure", subjects.chain(known))?;
         let (about, value, place) = match (subject, first.text) {
             (Some(subject), _) => {

@@ -3,7 +3,7 @@
 use std::fmt::{self, Display, Formatter};
 
 use redstone::{Kind, Row};
-use redstone_text::{Error, Line, Word, position_text};
+use redstone_text::{Error, Line, Word, Words, position_text};
 
 use crate::MOST_TICKS;
 use crate::name::{Position, find, is_switch, kind_name};
@@ -24,6 +24,8 @@ pub(crate) type Placed<'a> = (Switch, Word<'a>);
 
 /// The word that begins a line with a switch.
 pub(crate) const SWITCH: &str = "switch";
+/// The word before a tick's number.
+pub(crate) const TICK: &str = "tick";
 
 const SETTINGS: [(&str, bool); 2] = [("on", true), ("off", false)];
 
@@ -32,12 +34,7 @@ impl Switch {
     pub(crate) fn read_line(line: Line<'_>) -> Result<Placed<'_>, Error> {
         let mut words = line.words();
         words.expect(SWITCH)?;
-        let mut place = words.expect("a position x,y,z, or tick")?;
-        let mut tick = 0;
-        if place.text == "tick" {
-            tick = words.expect("a tick's number")?.number(0..=MOST_TICKS)?;
-            place = words.expect("a position x,y,z")?;
-        }
+        let (tick, place) = after_tick(&mut words, "a position x,y,z")?;
         let position = place.position()?;
         let on = words.expect("on or off")?.one_of("a setting", SETTINGS)?;
         words.end()?;
@@ -56,6 +53,16 @@ impl Switch {
         };
         Ok((switch, place))
     }
+}
+
+/// Reads the word that a line is about, and the tick before it, as in `tick 4`; without one it is tick 0.
+pub(crate) fn after_tick<'a>(words: &mut Words<'a>, what: &str) -> Result<(u32, Word<'a>), Error> {
+    let first = words.expect(&format!("{what}, or tick"))?;
+    if first.text != TICK {
+        return Ok((0, first));
+    }
+    let tick = words.expect("a tick's number")?.number(0..=MOST_TICKS)?;
+    Ok((tick, words.expect(what)?))
 }
 
 /// That a switch's position is that of a lever, button or plate.

@@ -8,7 +8,7 @@ use super::escape;
 use crate::device::place;
 use crate::expect::Met;
 use crate::grid::{Layer, layers};
-use crate::name::{block_name, is_switch};
+use crate::name::{block_name, is_switch, kind_name};
 use crate::run::{Frame, Run};
 
 /// The width of a cell, and of the places for the coordinates at the left and on top.
@@ -148,21 +148,9 @@ fn is_on(row: &Row, frame: &Frame, number: usize) -> bool {
     (place(row.kind()).is_some() || is_switch(row.kind())) && frame.given(number) > 0
 }
 
-fn class(kind: Kind) -> &'static str {
-    match kind {
-        Kind::Solid => "solid",
-        Kind::Transparent => "transparent",
-        Kind::RedstoneWire => "dust",
-        Kind::RedstoneTorch => "torch",
-        Kind::Repeater => "repeater",
-        Kind::Comparator => "comparator",
-        Kind::Lever => "lever",
-        Kind::Button => "button",
-        Kind::PressurePlate => "plate",
-        Kind::RedstoneLamp => "lamp",
-        Kind::RedstoneBlock => "redstone-block",
-        _ => "other",
-    }
+/// The kind's word, as the style sheet has it.
+fn class(kind: Kind) -> String {
+    kind_name(kind).replace(' ', "-")
 }
 
 fn drawing(row: &Row, frame: &Frame, number: usize) -> String {

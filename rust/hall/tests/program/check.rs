@@ -107,7 +107,7 @@ fn what_cannot_be_read_is_an_error_with_its_place() {
             1,
             "found \"expct\", expected a position or another first word: did you mean expect?",
         ),
-        ("expect", 7, "found nothing, expected a figure"),
+        ("expect", 7, "found nothing, expected a figure, or tick"),
         ("expect lampe 0,0,0 lit", 8, "found \"lampe\", expected a figure: did you mean lamp?"),
         (
             "expect lamp 9,9,9 lit",
