@@ -99,6 +99,31 @@ expect weak 0,0,0 = 0
     assert_eq!(lines[19], "1 file: 0 ok, 1 DIFFERS, 0 REFUSED; 18 expectations, 18 not met; 3 hints");
 }
 
+/// A run shows 20 ticks; what is expected later is run on to, with the switches on the way.
+#[test]
+fn what_is_expected_after_the_shown_ticks_is_met_or_not() {
+    let lines = "switch tick 2 0,1,0 on\nswitch tick 30 0,1,0 off\nexpect tick 1000 lamp 0,0,0 dark\n\
+                 expect tick 20 lamp 0,0,0 lit\nexpect tick 21 lamp 0,0,0 lit\nexpect tick 30 dust 1,1,0 = 0\n\
+                 expect tick 29 dust 1,1,0 = 15\n";
+    let (done, name) = check("check_later", lines);
+    assert_eq!((done.status, done.err.as_str()), (Some(0), ""), "{}", done.text());
+    assert!(done.text().starts_with(&format!("{name}: ok, 5 expectations;")), "{}", done.text());
+
+    let (done, name) = check(
+        "check_later",
+        &lines.replace("= 15", "= 0").replace("21 lamp 0,0,0 lit", "21 lamp 0,0,0 dark"),
+    );
+    assert_eq!(done.status, Some(1));
+    let differences: Vec<_> = done.text().lines().filter(|line| line.starts_with(' ')).collect();
+    assert_eq!(
+        differences,
+        [
+            format!("    {name}:11: expected tick 21 lamp 0,0,0 dark, given lit"),
+            format!("    {name}:13: expected tick 29 dust 1,1,0 = 0, given 15"),
+        ]
+    );
+}
+
 #[test]
 fn what_cannot_be_read_is_an_error_with_its_place() {
     for (line, column, message) in [
