@@ -1,4 +1,4 @@
-// Whether the proved functions of `world` and below answer as the original did. Each function takes the parts of its operation's record.
+// Whether the proved functions of rows, traits, names and positions answer as the original did. Each function takes the parts of its operation's record.
 pub mod right;
 
 use columns::byte_at;
