@@ -3,7 +3,8 @@
 use mathlib.Core.Bool.{Bool, _&&_}
 use lib.ListN.{getD, drop}
 use Rattle.columns.specs.Column.{Bytes}
-use Rattle.records.specs.Record.{long, posAt, after, sliceOf, hasParts}
+use Rattle.words.specs.Words.{long}
+use Rattle.records.specs.Record.{posAt, after, sliceOf, hasParts}
 use Rattle.answers.specs.Answers.{traitsAgree, shapeAgrees, findAgrees, propertiesAgree, offsetAgrees}
 
 module _ (r : Bytes) where

@@ -8,20 +8,9 @@ use lib.Dec.{eqb, leb}
 use Rattle.columns.specs.Column.{Bytes, Column, row, tabulate, same}
 use Rattle.places.specs.declared.Pos.{Pos}
 use Rattle.world.specs.Rows.{posOf}
+use Rattle.words.specs.Words.{half, word}
 
--- ---- the number at the front, low byte first
-
--- of two bytes
-abbrev pub half : Bytes → ℕ
-half s = getD s 0 0 + getD s 1 0 * 256
-
--- of four bytes
-abbrev pub word : Bytes → ℕ
-word s = getD s 0 0 + getD s 1 0 * 256 + getD s 2 0 * 65536 + getD s 3 0 * 16777216
-
--- of eight bytes
-abbrev pub long : Bytes → ℕ
-long s = word s + word (drop 4 s) * 4294967296
+-- ---- numbers
 
 -- entry i of a list of numbers of two bytes
 abbrev pub entry : Bytes → ℕ → ℕ

@@ -8,7 +8,7 @@ use lib.ListN.{length, drop, length-drop}
 use lib.Seq.{drop-drop}
 use borrow.Author.Tests.{leb-true}
 use Rattle.columns.specs.Column.{Bytes}
-use Rattle.records.specs.Record.{word}
+use Rattle.words.specs.Words.{word}
 use Rattle.replay.specs.Operations.{isRight}
 use Rattle.replay.specs.Replay.{startsWhole, firstRecord, laterRecords, countIf, ended, tallyFrom, tallyOf}
 

@@ -6,7 +6,7 @@ use lib.ListN.{length, take, drop}
 use lib.Dec.{eqb, leb}
 use Rattle.columns.specs.Column.{Bytes}
 use Rattle.replay.specs.declared.Tally.{Tally}
-use Rattle.records.specs.Record.{word}
+use Rattle.words.specs.Words.{word}
 use Rattle.replay.specs.Operations.{isRight}
 
 -- a whole record stands at the front

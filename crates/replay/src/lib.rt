@@ -2,12 +2,12 @@
 mod operations;
 
 use operations::is_right;
-use records::from;
-use records::front;
-use records::word;
+use words::from;
+use words::front;
+use words::word;
 ghost use mathlib.Core.Path.{_≡_};
 ghost use Prim.Native.Nat.{_+_, _<_, _^_};
-ghost use Rattle.records.specs.Record.{word as Record·word};
+ghost use Rattle.words.specs.Words.{word as Words·word};
 ghost use Rattle.replay.specs.Operations.{isRight};
 ghost use Rattle.replay.specs.Replay.{startsWhole, firstRecord, countIf, tallyOf};
 
@@ -21,7 +21,7 @@ pub struct Tally {
 
 // The bytes that the record at the front takes, with the four of its length.
 fn taken(s: &[u8]) -> usize
-    ensures { λ r. ⌜ r ≡ 4 + Record·word (now (s .entry)) ⌝ }
+    ensures { λ r. ⌜ r ≡ 4 + Words·word (now (s .entry)) ⌝ }
 {
     4 + (word(s) as usize)
 }

@@ -6,7 +6,8 @@ use native.Mathlib.Numerals.{add-one}
 use native.Mathlib.Omega.{arith}
 use lib.ListN.{drop}
 use borrow.Author.Needs.{needs}
-use Rattle.records.specs.Record.{half, partsFrom}
+use Rattle.words.specs.Words.{half}
+use Rattle.records.specs.Record.{partsFrom}
 use Rattle.records.proofs.parts_from.Statement.{statement}
 use Rattle.records.proofs.parts_from.Tie as tie
 

@@ -1,11 +1,11 @@
--- `records::front` meets its contract. Assumes nothing.
+-- `words::front` meets its contract. Assumes nothing.
 use mathlib.Core.Path.{sym}
 use native.Mathlib.Nat.{sub-zero}
 use native.Mathlib.Omega.{arith}
 use lib.Seq.{take-all}
 use borrow.Author.Needs.{needs}
-use Rattle.records.proofs.front.Statement.{statement}
-use Rattle.records.proofs.front.Tie as tie
+use Rattle.words.proofs.front.Statement.{statement}
+use Rattle.words.proofs.front.Tie as tie
 
 sub-result : tie.Need-sub-result
 sub-result c = search needs

@@ -1,7 +1,7 @@
--- `records::long` meets its contract. Assumes nothing.
+-- `words::long` meets its contract. Assumes nothing.
 use borrow.Author.Needs.{needs}
-use Rattle.records.proofs.long.Statement.{statement}
-use Rattle.records.proofs.long.Tie as tie
+use Rattle.words.proofs.long.Statement.{statement}
+use Rattle.words.proofs.long.Tie as tie
 
 word-requires : tie.Need-word-requires
 word-requires c κs = search needs

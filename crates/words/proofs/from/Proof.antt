@@ -1,12 +1,12 @@
--- `records::from` meets its contract: what is dropped past the end leaves nothing. Assumes nothing.
+-- `words::from` meets its contract: what is dropped past the end leaves nothing. Assumes nothing.
 use mathlib.Core.Path.{sym}
 use Prim.Native.Nat.{_-_}
 use native.Mathlib.Omega.{arith}
 use lib.ListN.{length, drop, length-drop, drop-of-length-le}
 use lib.Seq.{take-all}
 use borrow.Author.Needs.{needs}
-use Rattle.records.proofs.from.Statement.{statement}
-use Rattle.records.proofs.from.Tie as tie
+use Rattle.words.proofs.from.Statement.{statement}
+use Rattle.words.proofs.from.Tie as tie
 
 sub-result : tie.Need-sub-result
 sub-result c = search needs

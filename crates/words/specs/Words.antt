@@ -1,0 +1,17 @@
+-- The number at the front of a slice, "low byte first". A byte past the end is read as 0.
+-- Assumes nothing.
+use Prim.Native.Nat.{ℕ, _+_, _*_}
+use lib.ListN.{getD, drop}
+use Rattle.columns.specs.Column.{Bytes}
+
+-- of two bytes
+abbrev pub half : Bytes → ℕ
+half s = getD s 0 0 + getD s 1 0 * 256
+
+-- of four bytes
+abbrev pub word : Bytes → ℕ
+word s = getD s 0 0 + getD s 1 0 * 256 + getD s 2 0 * 65536 + getD s 3 0 * 16777216
+
+-- of eight bytes
+abbrev pub long : Bytes → ℕ
+long s = word s + word (drop 4 s) * 4294967296
