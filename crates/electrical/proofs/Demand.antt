@@ -189,6 +189,11 @@ module _ (p t : Bytes) (d : Column) where
   unfolding settled networkOf
   off-map = Network.off-map (networkOf p t) (emitted t d) (on-map p t)
 
+  -- every settled level of dust is at most the cap, whatever the devices emit
+  pub settled-capped : (i : ℕ) → i < rows t → isDust (kindOf t i) ≡ true → row (settled p t d .signal) i ≤ maxSignal
+  unfolding settled networkOf
+  settled-capped = Network.settled-capped (networkOf p t) (emitted t d)
+
   -- every settled number is at most the largest device byte, or the cap
   pub settled-bounded : (m : ℕ) → maxSignal ≤ m → ((i : ℕ) → row d i ≤ m) → Bounded m (settled p t d)
   unfolding settled

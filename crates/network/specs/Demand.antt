@@ -5,11 +5,11 @@ use mathlib.Core.Path.{_≡_, ap, sym, _∙_}
 use mathlib.Core.Bool.{true, false}
 use mathlib.Core.Logic.{⊎-elim}
 use Prim.Native.Nat.{ℕ, _≤_, _<_, max}
-use native.Mathlib.Nat.{le-refl, le-trans, le-antisymm, le-max-left, le-max-right}
+use native.Mathlib.Nat.{le-refl, le-trans, le-antisymm, le-max-left, le-max-right, min-le-left}
 use native.Mathlib.Omega.{arith}
 use Rattle.columns.specs.Column.{Column, row}
 use Rattle.columns.specs.Signal.{maxSignal}
-use Rattle.network.specs.Network.{Network, round, after, Answers, Rounds, Satisfies, Breaks}
+use Rattle.network.specs.Network.{Network, level, round, after, Answers, Rounds, Satisfies, Breaks}
 use Rattle.network.specs.Settled.{settling, roundsOf, settled}
 use Rattle.network.specs.Compare.{Rel₂, Rel₃, Larger, AtMost, Within, AtEveryRow₂, AtEveryRow₃, States₂, States₃, Bounded, PowerOnMap}
 use Rattle.network.specs.Laws.Kept.{Kept, after-kept}
@@ -61,6 +61,11 @@ module _ (N : Network) (e : Column) where
   -- and any other set breaks it at some dust, which is named.
   pub others-break : (x : ℕ → ℕ) (i : ℕ) → i < N .size → N .dust i ≡ true → ¬ (x i ≡ row (settled N e .signal) i) → Breaks N e x
   others-break x i l d n = ⊎-elim (λ h. absurd (n (settled-only x h i l d))) (λ b. b) (satisfied-or N e x)
+
+  -- No settled level of dust is above the cap, whatever is emitted.
+  pub settled-capped : (i : ℕ) → i < N .size → N .dust i ≡ true → row (settled N e .signal) i ≤ maxSignal
+  unfolding level
+  settled-capped i l d = rw (← settled-satisfies i l d) (min-le-left _ _)
 
   -- ---- power off the map, and the largest numbers
 

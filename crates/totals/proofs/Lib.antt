@@ -1,0 +1,2 @@
+-- Laws of months.
+pub mod Reading
