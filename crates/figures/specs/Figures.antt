@@ -102,3 +102,14 @@ withSettled f t rounds signal =
 -- with a table that is refused
 abbrev pub withRefused : Figures → Figures
 withRefused f = record { tables = f .tables; refused = f .refused + 1; rounds = f .rounds; levels = f .levels }
+
+-- ---- what the figures add up to
+
+-- the sum of a column's entries
+unfoldable pub total : Column → ℕ
+total [] = 0
+total (x ∷ xs) = x + total xs
+
+-- the dust rows of a table that is settled
+abbrev pub dustIn : Bytes → Bytes → ℕ
+dustIn p t = cond (isSettled p t) (countBelow (λ i. isDust (kindOf t i)) (rows t)) 0
