@@ -1,12 +1,14 @@
 -- The lines that the program `month` writes: "one to a line". What stands in quotation marks is document 02's, Change 1.
 -- Assumes nothing.
-use mathlib.Core.Bool.{cond}
+use mathlib.Core.Path.{_≡_}
+use mathlib.Core.Bool.{true, cond}
 use mathlib.Core.List.{_++_}
-use Prim.Native.Nat.{ℕ, _+_}
+use Prim.Native.Nat.{ℕ, _+_, _≤_}
 use lib.ListN.{length, take, drop}
 use Rattle.columns.specs.Column.{Bytes, Column, row, concatRows}
 use Rattle.columns.specs.Ascii.{ascii}
 use Rattle.layout.specs.Good.{goodProfile}
+use Rattle.text.specs.Put.{Puts}
 use Rattle.text.specs.Text.{decimalOf, lineOf}
 use Rattle.lines.specs.Lines.{refusalText}
 use Rattle.streams.specs.declared.Ending.{Ending}
@@ -48,3 +50,9 @@ tablesOf input = drop 13 input
 unfoldable pub outputOf : Bytes → Bytes
 outputOf input =
     cond (goodProfile (profileOf input)) (monthText (monthOf (profileOf input) (tablesOf input))) (refusalText 1 0)
+
+-- Whatever the input is: where p is its profile, and, if that is good, m the month of its tables, its output is put at the front.
+pub record Outputs (p : Bytes) (m : Month) (old new : Bytes) (r : ℕ) : Type 0 where
+  pub is : (input : Bytes) → p ≡ profileOf input → (goodProfile p ≡ true → m ≡ monthOf p (tablesOf input)) → Puts (outputOf input) 0 old new r
+  -- it follows from the line above, and spares the caller the proof
+  pub within : r ≤ length new

@@ -5,7 +5,7 @@ ghost use Prim.Native.Nat.{_+_, _*_, _≤_};
 ghost use lib.ListN.{length};
 ghost use Rattle.text.specs.Put.{Puts};
 ghost use Rattle.columns.specs.Ascii.{ascii};
-ghost use Rattle.month_lines.specs.Lines.{numberedLine, numberedLines, endedText, monthText};
+ghost use Rattle.month_lines.specs.Lines.{numberedLine, numberedLines, endedText, monthText, Outputs};
 
 // A name of at most seven bytes, its number and a figure, as a line.
 fn numbered_line(out: &mut [u8], at: usize, name: &[u8], k: usize, n: u64) -> usize
@@ -64,7 +64,7 @@ fn ended_line(out: &mut [u8], at: usize, ended: Ending) -> usize
 }
 
 // All lines of a month, at the front.
-pub fn month(out: &mut [u8], month: Month) -> usize
+fn all_lines(out: &mut [u8], month: Month) -> usize
     requires { ⌜ 2048 ≤ length (now out) ⌝ }
     ensures { λ r. ⌜ Puts (monthText month) 0 (now (out .entry)) (now (out .exit)) r ⌝ }
 {
@@ -77,4 +77,15 @@ pub fn month(out: &mut [u8], month: Month) -> usize
     let fourth = rounds_lines(out, third, rounds);
     let last = level_lines(out, fourth, levels);
     ended_line(out, last, ended)
+}
+
+// The output for a whole input, at the front: of its profile, and of the month of its tables where the profile is good.
+pub fn output(out: &mut [u8], profile: &[u8], month: Month) -> usize
+    requires { ⌜ 2048 ≤ length (now out) ⌝ }
+    ensures { λ r. ⌜ Outputs (now (profile .entry)) month (now (out .entry)) (now (out .exit)) r ⌝ }
+{
+    if layout::good_profile(profile) {
+        return all_lines(out, month);
+    }
+    lines::refusal(out, 1, 0)
 }

@@ -21,7 +21,7 @@ use Rattle.figures.specs.Figures.{sumOf, figuresOf, withSettled, withRefused}
 use Rattle.figures.specs.Room.{Room}
 use Rattle.figures.proofs.Sums.{tables-all, figures-room, figures-settled, figures-refused}
 use Rattle.totals.specs.declared.Month.{Month}
-use Rattle.totals.specs.Month.{monthOf, Counts}
+use Rattle.totals.specs.Month.{monthOf, Counts, Open}
 
 -- ---- a table more
 
@@ -118,3 +118,6 @@ pub no-bytes : (p : Bytes)
     → record { figures = record { tables = 0; refused = 0; rounds = replicate 17 0; levels = replicate 16 0 }; ended = Whole } ≡ monthOf p []
 unfolding monthOf streamOf figuresOf sumOf tabulateFrom
 no-bytes p = rw (read-nothing mostTables)
+
+pub open-start : {m : Month} → ((p : Bytes) → m ≡ monthOf p []) → (p : Bytes) → Open p m
+open-start e p = record { input = []; is = e p; whole = ap (λ m. m .ended) (e p ∙ sym (no-bytes p)) }

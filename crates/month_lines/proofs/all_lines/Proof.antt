@@ -1,10 +1,10 @@
--- `month_lines::month` meets its contract: one part after the other. Assumes nothing.
+-- `month_lines::all_lines` meets its contract: one part after the other. Assumes nothing.
 use mathlib.Core.List.{append-assoc}
 use borrow.Author.Needs.{needs}
 use Rattle.text.proofs.Putting.{puts-then}
 use Rattle.month_lines.specs.Lines.{monthText}
-use Rattle.month_lines.proofs.month.Statement.{statement}
-use Rattle.month_lines.proofs.month.Tie as tie
+use Rattle.month_lines.proofs.all_lines.Statement.{statement}
+use Rattle.month_lines.proofs.all_lines.Tie as tie
 
 slice-aggregate-line : tie.Need-slice-aggregate-line
 slice-aggregate-line c = search needs
@@ -41,8 +41,8 @@ returns c =
     let p = puts-then (tables .line .ensures .0) (refused .line2 .ensures .0) in
     puts-then (puts-then (puts-then p (rounds .rounds-lines .ensures .0)) (levels .level-lines .ensures .0)) (ended .ended-line .ensures)
 
-pub month-spec : {M : Type 1} → statement M
-month-spec =
+pub all-lines-spec : {M : Type 1} → statement M
+all-lines-spec =
     tie.close
     (tie.spec
     slice-aggregate-line

@@ -1,0 +1,105 @@
+-- `month::count` meets its contract. The loop's invariant: the month is that of what was read so far. Assumes nothing.
+use mathlib.Core.Path.{_≡_, sym, _∙_}
+use mathlib.Core.List.{_++_}
+use Prim.Native.Nat.{_-_, _≤_}
+use native.Mathlib.Omega.{arith}
+use lib.ListN.{length, take}
+use lib.Seq.{length-take-le}
+use borrow.Author.Needs.{needs}
+use Rattle.totals.specs.Month.{Open}
+use Rattle.totals.proofs.Reading.{open-start}
+use Rattle.month.specs.Input.{Counted}
+use Rattle.month.proofs.count.Statement.{statement}
+use Rattle.month.proofs.count.Tie as tie
+
+abbrev Inv-loop : tie.InvT-loop
+Inv-loop profile buf₀ month₀ tables₀ buf month tables = (length buf ≡ length buf₀) × (tables ≤ 1000001) × Open profile month
+
+abbrev μ-loop : tie.MeasureT-loop
+μ-loop profile buf₀ month₀ tables₀ buf month tables = 1000001 - tables
+
+start-requires : tie.Need-start-requires Inv-loop μ-loop
+start-requires c κs = search needs
+
+loop-holds : tie.Need-loop-holds Inv-loop μ-loop
+loop-holds c = (search needs, omega arith, open-start (c .start .ensures) (c .before .before .before .args .profile .now))
+
+read-table-requires : tie.Need-read-table-requires Inv-loop μ-loop
+read-table-requires c κs = search needs
+
+slice-reshare-prefix-read : tie.Need-slice-reshare-prefix-read Inv-loop μ-loop
+slice-reshare-prefix-read c = search needs
+
+slice-aggregate-read : tie.Need-slice-aggregate-read Inv-loop μ-loop
+slice-aggregate-read c = sym (length-take-le _ _ (c .before .before .before .read-table .ensures))
+
+abbrev loop-of : tie.After-read-arg Inv-loop μ-loop → tie.At-loop Inv-loop μ-loop
+loop-of c = c .before .before .before .before .before .before
+
+read-requires : tie.Need-read-requires Inv-loop μ-loop
+read-requires c κs = loop-of c .loop .inv .2
+
+-- the month of what was read before, and now
+counted : (c : tie.After-read Inv-loop μ-loop) → let s = loop-of (c .before) .before .before .before .before in Counted (s .args .profile .now) (c .read .result)
+counted c = let o = loop-of (c .before) .loop .inv .2 in record { input = _; is = c .read .ensures .is (o .input) (o .is) }
+
+enum-told : tie.Need-enum-told Inv-loop μ-loop
+enum-told c = search needs
+
+same-length : tie.Need-same-length Inv-loop μ-loop
+same-length c = search needs
+
+returns : tie.Need-returns Inv-loop μ-loop
+returns c = counted (c .before)
+
+same-length-2 : tie.Need-same-length-2 Inv-loop μ-loop
+same-length-2 c = search needs
+
+returns-2 : tie.Need-returns-2 Inv-loop μ-loop
+returns-2 c = counted (c .before .before .before)
+
+add-tables : tie.Need-add-tables Inv-loop μ-loop
+add-tables c = search needs
+
+progress-requires : tie.Need-progress-requires Inv-loop μ-loop
+progress-requires c κs = search needs
+
+loop-less : tie.Need-loop-less Inv-loop μ-loop
+loop-less c = search needs
+
+loop-again : tie.Need-loop-again Inv-loop μ-loop
+loop-again c =
+    let told = c .before .before in
+    let read = told .before .before in
+    let k = counted read in
+    (read .before .before .before .before .read-table .kept .0 ∙ loop-of (read .before) .loop .inv .0, omega arith, record { input = k .input; is = k .is; whole = told .enum-told .given .1 })
+
+same-length-3 : tie.Need-same-length-3 Inv-loop μ-loop
+same-length-3 c = search needs
+
+returns-3 : tie.Need-returns-3 Inv-loop μ-loop
+returns-3 c = let o = c .before .loop .inv .2 in record { input = o .input; is = o .is }
+
+pub count-spec : {M : Type 1} → statement M
+count-spec =
+    tie.close
+    (tie.spec
+    Inv-loop
+    μ-loop
+    start-requires
+    loop-holds
+    read-table-requires
+    slice-reshare-prefix-read
+    slice-aggregate-read
+    read-requires
+    enum-told
+    same-length
+    returns
+    same-length-2
+    returns-2
+    add-tables
+    progress-requires
+    loop-less
+    loop-again
+    same-length-3
+    returns-3)

@@ -1,0 +1,45 @@
+-- `month_lines::output` meets its contract. Assumes nothing.
+use mathlib.Core.Path.{sym, _∙_}
+use borrow.Author.Needs.{needs}
+use Rattle.month_lines.proofs.Outputs.{outputs-month, outputs-refusal}
+use Rattle.month_lines.proofs.output.Statement.{statement}
+use Rattle.month_lines.proofs.output.Tie as tie
+
+good-profile-requires : tie.Need-good-profile-requires
+good-profile-requires c κs = search needs
+
+all-lines-requires : tie.Need-all-lines-requires
+all-lines-requires c κs = search needs
+
+same-length : tie.Need-same-length
+same-length c = search needs
+
+returns : tie.Need-returns
+returns c =
+    let put = c .before .before in
+    let test = put .before .before in
+    outputs-month (sym (test .before .good-profile .ensures) ∙ test .if1 .taken) (put .all-lines .ensures)
+
+refusal-requires : tie.Need-refusal-requires
+refusal-requires c κs = search needs
+
+same-length-2 : tie.Need-same-length-2
+same-length-2 c = search needs
+
+returns-2 : tie.Need-returns-2
+returns-2 c =
+    let put = c .before .before in
+    let test = put .before .before in
+    outputs-refusal (sym (test .before .good-profile .ensures) ∙ test .if1 .left) (put .refusal .ensures)
+
+pub output-spec : {M : Type 1} → statement M
+output-spec =
+    tie.close
+    (tie.spec
+    good-profile-requires
+    all-lines-requires
+    same-length
+    returns
+    refusal-requires
+    same-length-2
+    returns-2)
