@@ -13,13 +13,14 @@ pub mod lent;
 pub mod oracle;
 pub mod positions;
 pub mod probe;
-#[cfg(not(no_original))]
 pub mod program;
 pub mod random;
 #[cfg(not(no_original))]
 pub mod redstone;
 pub mod refusals;
 pub mod report;
+#[cfg(not(no_original))]
+pub mod settle;
 pub mod suite;
 pub mod table;
 #[cfg(not(no_original))]
