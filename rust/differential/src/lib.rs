@@ -1,5 +1,5 @@
-//! Holds the proved functions of the static libraries `probe` and `redstone`, and the program `settle`, against the
-//! original Rust.
+//! Holds the proved functions of the static libraries `probe` and `redstone`, and the programs `settle` and `month`,
+//! against the original Rust.
 
 pub mod checks;
 pub mod compare;
@@ -9,6 +9,8 @@ pub mod damage;
 pub mod differences;
 pub mod generate;
 pub mod lent;
+#[cfg(not(no_original))]
+pub mod month;
 #[cfg(not(no_original))]
 pub mod oracle;
 pub mod positions;

@@ -3,7 +3,8 @@
 use std::ffi::{OsStr, OsString};
 use std::io::{self, ErrorKind, Write};
 use std::path::Path;
-use std::process::{Command, Stdio};
+use std::process::{ChildStdin, Command, Stdio};
+use std::time::Duration;
 use std::{env, thread};
 
 /// The program of a name, or a sentence that says what is missing.
@@ -29,11 +30,26 @@ pub struct Written {
 
 /// Runs a program on an input.
 pub fn run(program: &OsStr, input: &[u8]) -> io::Result<Written> {
+    run_fed(program, |mut stdin| stdin.write_all(input))
+}
+
+/// The same, with an input that comes a byte at a time.
+pub fn run_bytewise(program: &OsStr, input: &[u8]) -> io::Result<Written> {
+    run_fed(program, |mut stdin| {
+        for byte in input {
+            stdin.write_all(&[*byte])?;
+            thread::sleep(Duration::from_micros(200));
+        }
+        Ok(())
+    })
+}
+
+fn run_fed(program: &OsStr, feed: impl FnOnce(ChildStdin) -> io::Result<()> + Send) -> io::Result<Written> {
     let mut command = Command::new(program);
     let mut running = command.stdin(Stdio::piped()).stdout(Stdio::piped()).stderr(Stdio::piped()).spawn()?;
-    let mut stdin = running.stdin.take().expect("standard input is piped");
+    let stdin = running.stdin.take().expect("standard input is piped");
     let output = thread::scope(|scope| {
-        let writing = scope.spawn(move || stdin.write_all(input));
+        let writing = scope.spawn(move || feed(stdin));
         let output = running.wait_with_output()?;
         match writing.join().expect("writing does not panic") {
             // A program need not read all.
