@@ -12,18 +12,19 @@ use redstone::{Columns, Kind, Row, STATE_BYTES, fresh, settle, switch, tick};
 
 use crate::timing::{Medians, medians};
 
-pub fn cases() -> Vec<Case> {
+pub fn cases() -> impl Iterator<Item = Case> {
     let dense = (0..).map(generate::case).find(|case| case.sort == "1,024 rows");
-    vec![
-        Case::line("15 dust in line, 31 rows", 15),
-        Case::line("511 dust in line, 1,023 rows", 511),
-        Case {
-            sort: "dense, 1,024 rows",
-            profile: BENCH_PROFILE.into(),
-            ..dense.expect("some seed has such a table")
-        },
-        Case::new("no rows", BENCH_PROFILE, []),
-    ]
+    let dense = Case {
+        sort: "dense, 1,024 rows",
+        profile: BENCH_PROFILE.into(),
+        ..dense.expect("some seed has such a table")
+    };
+    lines().into_iter().chain([dense, Case::new("no rows", BENCH_PROFILE, [])])
+}
+
+/// Test 4's line, and the same with as many dust as fit.
+pub fn lines() -> [Case; 2] {
+    [Case::line("15 dust in line, 31 rows", 15), Case::line("511 dust in line, 1,023 rows", 511)]
 }
 
 /// A switch's position, or else the first row's.
@@ -148,6 +149,6 @@ fn of_look_up(oracle: &Oracle) -> Medians {
 mod tests {
     #[test]
     fn the_sides_agree_on_what_is_timed() {
-        super::cases().iter().for_each(super::assert_sides_agree);
+        super::cases().for_each(|case| super::assert_sides_agree(&case));
     }
 }

@@ -1,7 +1,10 @@
-//! Times the proved calls beside the original on the same tables, and prints the medians as a markdown table.
+//! Times the proved calls, and then the program `month`, beside the original on the same tables, and prints the medians as
+//! markdown tables.
 
 #[cfg(not(no_original))]
 mod calls;
+#[cfg(not(no_original))]
+mod month;
 #[cfg(not(no_original))]
 mod timing;
 
@@ -17,6 +20,10 @@ fn main() {
         eprintln!("Both sides are to be built in release: run `cargo run --release -p bench`.");
         std::process::exit(1);
     }
+    let program = differential::program::find("month").unwrap_or_else(|sentence| {
+        eprintln!("{sentence}");
+        std::process::exit(1)
+    });
     println!("| table | call | original | proved | original / proved | runs |");
     println!("|---|---|---:|---:|---:|---:|");
     for case in calls::cases() {
@@ -26,6 +33,16 @@ fn main() {
         }
     }
     println!("\n{NOTES}");
+    println!(
+        "\n| table | tables in a stream | original, tables a second | `month`, tables a second | `month` / original | runs |"
+    );
+    println!("|---|---:|---:|---:|---:|---:|");
+    for (case, tables) in month::streams() {
+        month::assert_sides_agree(&program, &case, tables);
+        let rates = month::medians_of_streams(&program, &case, tables).rates(tables);
+        println!("| {} | {tables} | {rates} |", case.sort);
+    }
+    println!("\n{NOTES_ON_MONTH}");
 }
 
 #[cfg(not(no_original))]
@@ -40,3 +57,10 @@ had left. Both sides gave the same answers before they were timed, and stood at 
   before each tick and after it.
 - switch: on and off by turns, beside `set_powered`.
 - look-up: each row's position in turn, beside `World::get`.";
+
+#[cfg(not(no_original))]
+const NOTES_ON_MONTH: &str = "\
+Each figure is the number of tables in a stream, divided by the median time of the whole stream. `month` read it from a
+pipe, and its time is from its start to its end, with the reading and the checks. The original ran by turns with it, in a
+loop that took the fresh devices, settled and counted, over a world that was made before the clock started. Both gave the
+same figures before they were timed.";

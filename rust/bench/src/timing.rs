@@ -17,6 +17,15 @@ impl Display for Medians {
     }
 }
 
+impl Medians {
+    /// How many tables a second, where a call is about so many.
+    pub fn rates(&self, tables: usize) -> String {
+        let Self { original, proved, runs } = self;
+        let rate = |nanoseconds: &f64| tables as f64 * 1e9 / nanoseconds;
+        format!("{:.0} | {:.0} | {:.2} | {runs}", rate(original), rate(proved), original / proved)
+    }
+}
+
 fn time(nanoseconds: f64) -> String {
     match nanoseconds {
         0.0..1e3 => format!("{nanoseconds:.1} ns"),

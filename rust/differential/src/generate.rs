@@ -26,6 +26,11 @@ impl Case {
         Self { seed: 0, sort, profile: profile.to_vec(), table: redstone::table(rows) }
     }
 
+    /// A case that no seed gives, of any bytes.
+    pub fn of_bytes(profile: &[u8], table: &[u8]) -> Self {
+        Self { seed: 0, sort: "", profile: profile.into(), table: table.into() }
+    }
+
     /// Tests 3 and 4 of the book: a redstone block and so many dust in a line, each on a solid block.
     pub fn line(sort: &'static str, dust: i32) -> Self {
         let column = |x| [Row::new(Kind::Solid, [x, 0, 0]), Row::new(Kind::RedstoneWire, [x, 1, 0])];

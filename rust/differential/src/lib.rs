@@ -1,5 +1,5 @@
-//! Holds the proved functions of the static libraries `probe` and `redstone`, and the program `settle`, against the
-//! original Rust.
+//! Holds the proved functions of the static libraries `probe` and `redstone`, and the programs `settle` and `month`,
+//! against the original Rust.
 
 pub mod checks;
 pub mod compare;
@@ -10,16 +10,19 @@ pub mod differences;
 pub mod generate;
 pub mod lent;
 #[cfg(not(no_original))]
+pub mod month;
+#[cfg(not(no_original))]
 pub mod oracle;
 pub mod positions;
 pub mod probe;
-#[cfg(not(no_original))]
 pub mod program;
 pub mod random;
 #[cfg(not(no_original))]
 pub mod redstone;
 pub mod refusals;
 pub mod report;
+#[cfg(not(no_original))]
+pub mod settle;
 pub mod suite;
 pub mod table;
 #[cfg(not(no_original))]

@@ -1,46 +1,58 @@
-//! The program `settle`, run on an input beside what document 01 says of it.
+//! The proved programs, found and run.
 
 use std::ffi::{OsStr, OsString};
 use std::io::{self, ErrorKind, Write};
 use std::path::Path;
-use std::process::{Command, Stdio};
+use std::process::{ChildStdin, Command, Stdio};
+use std::time::Duration;
 use std::{env, thread};
 
-use original::electrical::PoweredBlockState;
-use redstone::Row;
-
-use crate::generate::Case;
-use crate::oracle::{Oracle, pos};
-use crate::redstone::fresh_devices;
-use crate::refusals::Refusal;
-use crate::report;
-
-const PROFILE_BYTES: usize = 13;
-pub const MOST_BYTES: usize = 32_781;
-
-/// The program, or a sentence that says what is missing.
-pub fn find() -> Result<OsString, String> {
-    let root = Path::new(env!("CARGO_MANIFEST_DIR")).join("../../target/bin/settle");
-    let program = env::var_os("SETTLE_BIN").unwrap_or(root.into());
+/// The program of a name, or a sentence that says what is missing.
+pub fn find(name: &str) -> Result<OsString, String> {
+    let built = Path::new(env!("CARGO_MANIFEST_DIR")).join("../../target/bin").join(name);
+    let variable = format!("{}_BIN", name.to_uppercase());
+    let program = env::var_os(&variable).unwrap_or(built.into());
     if Path::new(&program).is_file() {
         return Ok(program);
     }
     Err(format!(
-        "The program `settle` is not at {}: run `rt check settle` in the repository's root first, or set \
-         SETTLE_BIN to where it is.",
+        "The program `{name}` is not at {}: run `rt check {name}` in the repository's root first, or set {variable} to \
+         where it is.",
         program.display()
     ))
 }
 
-/// What the program writes to standard output for an input.
-pub fn written(program: &OsStr, input: &[u8]) -> io::Result<String> {
-    let mut running = Command::new(program).stdin(Stdio::piped()).stdout(Stdio::piped()).spawn()?;
-    let mut stdin = running.stdin.take().expect("standard input is piped");
+/// What a program wrote to standard output and to standard error.
+pub struct Written {
+    pub output: String,
+    pub errors: String,
+}
+
+/// Runs a program on an input.
+pub fn run(program: &OsStr, input: &[u8]) -> io::Result<Written> {
+    run_fed(program, |mut stdin| stdin.write_all(input))
+}
+
+/// The same, with an input that comes a byte at a time.
+pub fn run_bytewise(program: &OsStr, input: &[u8]) -> io::Result<Written> {
+    run_fed(program, |mut stdin| {
+        for byte in input {
+            stdin.write_all(&[*byte])?;
+            thread::sleep(Duration::from_micros(200));
+        }
+        Ok(())
+    })
+}
+
+fn run_fed(program: &OsStr, feed: impl FnOnce(ChildStdin) -> io::Result<()> + Send) -> io::Result<Written> {
+    let mut command = Command::new(program);
+    let mut running = command.stdin(Stdio::piped()).stdout(Stdio::piped()).stderr(Stdio::piped()).spawn()?;
+    let stdin = running.stdin.take().expect("standard input is piped");
     let output = thread::scope(|scope| {
-        let writing = scope.spawn(move || stdin.write_all(input));
+        let writing = scope.spawn(move || feed(stdin));
         let output = running.wait_with_output()?;
         match writing.join().expect("writing does not panic") {
-            // The program need not read what is past the most bytes.
+            // A program need not read all.
             Err(error) if error.kind() != ErrorKind::BrokenPipe => Err(error),
             _ => Ok(output),
         }
@@ -48,30 +60,6 @@ pub fn written(program: &OsStr, input: &[u8]) -> io::Result<String> {
     if output.status.code().is_none() {
         return Err(io::Error::other(format!("the program did not end by itself: {}", output.status)));
     }
-    Ok(String::from_utf8_lossy(&output.stdout).into_owned())
-}
-
-/// What it is to write.
-pub fn expected(input: &[u8]) -> String {
-    if input.len() > MOST_BYTES {
-        return report::refused(Refusal { number: 3, row: 0 });
-    }
-    let (profile, table) = input.split_at(input.len().min(PROFILE_BYTES));
-    let case = Case { seed: 0, sort: "", profile: profile.into(), table: table.into() };
-    let oracle = Oracle::new(&case);
-    match oracle.refusal {
-        Ok(()) => settled(&oracle),
-        Err(refusal) => report::refused(refusal),
-    }
-}
-
-fn settled(oracle: &Oracle) -> String {
-    let settled = oracle.settle(&fresh_devices(oracle), 128).expect("128 rounds are enough");
-    let numbers = |row: &Row| {
-        let at = pos(row.position());
-        let PoweredBlockState { weak, strong } = settled.power(at);
-        (row.position(), [settled.signal(at), weak, strong])
-    };
-    let rows: Vec<_> = oracle.rows.iter().map(numbers).collect();
-    report::settled(settled.iterations as u32, &rows)
+    let text = |bytes: Vec<u8>| String::from_utf8_lossy(&bytes).into_owned();
+    Ok(Written { output: text(output.stdout), errors: text(output.stderr) })
 }

@@ -166,6 +166,11 @@ impl Oracle<'_> {
         solve_instantaneous(self.world(), &devices, limit as usize).map_err(|_| Refusal { number: 8, row: 0 })
     }
 
+    /// Settling with the fresh devices.
+    pub fn settle_fresh(&self) -> InstantaneousElectricalState {
+        self.settle(&fresh_devices(self), 128).expect(SETTLES)
+    }
+
     fn fresh(&self, state: &mut [u8]) -> InstantaneousElectricalState {
         let simulator = self.started();
         state.copy_from_slice(&self.packed(&simulator));

@@ -14,8 +14,17 @@ use crate::random::Random;
 
 /// The accepted tables of this many seeds or of DIFF_TABLES, from 0 or DIFF_SEED on.
 pub fn good_cases(tables: u64) -> impl Iterator<Item = Case> {
+    cases(setting("DIFF_TABLES", tables))
+}
+
+/// The same, where fewer than this many would not do.
+pub fn at_least_good_cases(tables: u64) -> impl Iterator<Item = Case> {
+    cases(setting("DIFF_TABLES", tables).max(tables))
+}
+
+fn cases(tables: u64) -> impl Iterator<Item = Case> {
     let first = setting("DIFF_SEED", 0);
-    (first..first + setting("DIFF_TABLES", tables)).map(generate::case)
+    (first..first + tables).map(generate::case)
 }
 
 pub fn setting(name: &str, otherwise: u64) -> u64 {

@@ -11,17 +11,18 @@ mod compared {
     use std::io::Write;
 
     use differential::generate::{BENCH_PROFILE, Case};
-    use differential::program::{MOST_BYTES, expected, find, written};
+    use differential::program::{find, run};
+    use differential::settle::{MOST_BYTES, expected};
     use differential::suite::{good_cases, with_damaged};
     use redstone::{Kind, Row};
 
     /// Asserts that the program writes for each input what document 01 says, and gives that back.
     fn assert_agrees(inputs: impl Iterator<Item = Vec<u8>>) -> Vec<String> {
-        let program = find().unwrap_or_else(|sentence| panic!("{sentence}"));
+        let program = find("settle").unwrap_or_else(|sentence| panic!("{sentence}"));
         let agreed = |input: Vec<u8>| {
-            let actual = written(&program, &input).unwrap_or_else(|error| panic!("{error}, on {input:02x?}"));
-            assert_eq!(actual, expected(&input), "on the input {input:02x?}");
-            actual
+            let written = run(&program, &input).unwrap_or_else(|error| panic!("{error}, on {input:02x?}"));
+            assert_eq!(written.output, expected(&input), "on the input {input:02x?}");
+            written.output
         };
         inputs.map(agreed).collect()
     }

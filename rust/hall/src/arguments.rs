@@ -8,6 +8,7 @@ use std::str::FromStr;
 use redstone_text::Word;
 
 use crate::command::{Choice, Command, Failure, PROFILE, SWITCH, TICKS};
+use crate::input::is_standard_input;
 use crate::run::Run;
 use crate::{DEFAULT_TICKS, Hall, MOST_SHOWN_TICKS, input};
 
@@ -91,6 +92,17 @@ impl Arguments {
     /// The one file that is named.
     pub(crate) fn file(&self) -> Result<&OsStr, Failure> {
         self.one("no hall is named: give a file, or - for standard input")
+    }
+
+    /// The files that are named, one at least.
+    pub(crate) fn files(&self) -> Result<&[OsString], Failure> {
+        if self.operands.is_empty() {
+            return Err(Failure::sentence("no file is named: give some, or - for standard input"));
+        }
+        if self.operands.iter().filter(|file| is_standard_input(file)).count() > 1 {
+            return Err(Failure::sentence("standard input is named twice: it can be read once"));
+        }
+        Ok(&self.operands)
     }
 
     /// The profile that `--profile` names.

@@ -2,7 +2,7 @@
 
 use std::ffi::OsStr;
 use std::fs::{self, File};
-use std::io::{self, BufWriter, ErrorKind, Write};
+use std::io::{self, BufWriter, ErrorKind, IsTerminal, Write};
 use std::os::fd::AsFd;
 use std::os::unix::fs::MetadataExt;
 use std::path::Path;
@@ -34,18 +34,27 @@ pub(crate) fn unwritten(name: &str, error: &io::Error) -> String {
     }
 }
 
-/// Writes bytes to the file that `-o` names, or to standard output for `-` and where there is no `-o`.
+/// Refuses what would go to a terminal, where there is no `-o`; `what` is as in `bytes are`.
+pub(crate) fn refuse_terminal(file: Option<&OsStr>, what: &str, example: &str) -> Result<(), Failure> {
+    if file.is_none() && io::stdout().is_terminal() {
+        return Err(Failure::sentence(format!("{what} not for a terminal: name a file, as in -o {example}")));
+    }
+    Ok(())
+}
+
+/// Writes bytes to the file that `-o` names, or to standard output for `-` and where there is no `-o`. `inputs` are the
+/// halls' files.
 pub(crate) fn deliver(
     bytes: &[u8],
     file: Option<&OsStr>,
-    input: &OsStr,
+    inputs: &[impl AsRef<Path>],
     out: &mut dyn Write,
 ) -> Result<(), Failure> {
     match file.filter(|file| *file != "-") {
         None => Ok(out.write_all(bytes)?),
         Some(file) => {
             let name = file.to_string_lossy();
-            if is_same_file(Path::new(file), Path::new(input)) {
+            if inputs.iter().any(|input| is_same_file(Path::new(file), input.as_ref())) {
                 return Err(Failure::sentence(format!(
                     "{name} is the hall itself: name another file after -o, or it would be lost"
                 )));
@@ -55,10 +64,10 @@ pub(crate) fn deliver(
     }
 }
 
-/// Says, once all is written, how many lines with switches and expectations a hall has that were left out, and why.
-pub(crate) fn tell_left_out(hall: &Hall, why: &str, out: &mut dyn Write) -> Result<(), Failure> {
+/// Says, once all is written, how many lines with switches and expectations the halls have that were left out, and why.
+pub(crate) fn tell_left_out(halls: &[Hall], why: &str, out: &mut dyn Write) -> Result<(), Failure> {
     out.flush()?;
-    let left = hall.switches.len() + hall.expectations.len();
+    let left: usize = halls.iter().map(|hall| hall.switches.len() + hall.expectations.len()).sum();
     if left > 0 {
         let lines = counted(left, "line");
         // It changes nothing that this cannot be said.

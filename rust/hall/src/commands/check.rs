@@ -14,7 +14,7 @@ use crate::arguments::Arguments;
 use crate::command::{Command, Failure, PROFILE, Status};
 use crate::expect::{Met, meet};
 use crate::hint::hints;
-use crate::input::{self, is_standard_input};
+use crate::input;
 use crate::name::counted;
 use crate::progress::{self, Progress};
 use crate::{DEFAULT_TICKS, Hall, Refused, Run};
@@ -41,13 +41,7 @@ differ. The files are run on all cores, and their lines stand in the order given
 };
 
 fn run(arguments: &Arguments, out: &mut dyn Write) -> Result<Status, Failure> {
-    let files = &arguments.operands;
-    if files.is_empty() {
-        return Err(Failure::sentence("no file is named: give some, or - for standard input"));
-    }
-    if files.iter().filter(|file| is_standard_input(file)).count() > 1 {
-        return Err(Failure::sentence("standard input is named twice: it can be read once"));
-    }
+    let files = arguments.files()?;
     let profile = arguments.profile()?;
     let (next, stop) = (AtomicUsize::new(0), AtomicBool::new(false));
     let cores = thread::available_parallelism().map_or(1, usize::from).min(files.len());

@@ -22,6 +22,6 @@ fn run(arguments: &Arguments, out: &mut dyn Write) -> Result<Status, Failure> {
     let run = arguments.run(&arguments.hall()?)?;
     let mut bytes = Vec::new();
     write_csv(&run, &mut bytes)?;
-    deliver(&bytes, arguments.option(&OUT), arguments.file()?, out)?;
+    deliver(&bytes, arguments.option(&OUT), &arguments.operands, out)?;
     Ok(Status::Good)
 }

@@ -9,6 +9,7 @@ mod new;
 mod pack;
 mod report;
 mod run;
+mod stream;
 mod unpack;
 
 /// All commands, in the order in which `--help` lists them. A new one is a module and a line here.
@@ -21,4 +22,5 @@ pub const COMMANDS: &[&Command] = &[
     &csv::COMMAND,
     &pack::COMMAND,
     &unpack::COMMAND,
+    &stream::COMMAND,
 ];

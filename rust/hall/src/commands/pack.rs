@@ -1,10 +1,11 @@
 //! `hall pack`: from text to bytes.
 
-use std::io::{self, IsTerminal, Write};
+use std::io::Write;
+use std::slice;
 
 use crate::arguments::Arguments;
 use crate::command::{Command, Failure, OUT, PROFILE, Status};
-use crate::output::{deliver, tell_left_out};
+use crate::output::{deliver, refuse_terminal, tell_left_out};
 
 pub const COMMAND: Command = Command {
     name: "pack",
@@ -19,10 +20,8 @@ behind in the text.",
 
 fn run(arguments: &Arguments, out: &mut dyn Write) -> Result<Status, Failure> {
     let (hall, file) = (arguments.hall()?, arguments.option(&OUT));
-    if file.is_none() && io::stdout().is_terminal() {
-        return Err(Failure::sentence("bytes are not for a terminal: name a file, as in -o hall.bin"));
-    }
-    deliver(&[hall.fresh.profile(), hall.fresh.table()].concat(), file, arguments.file()?, out)?;
-    tell_left_out(&hall, "the packed form has no place for them", out)?;
+    refuse_terminal(file, "bytes are", "hall.bin")?;
+    deliver(&[hall.fresh.profile(), hall.fresh.table()].concat(), file, &arguments.operands, out)?;
+    tell_left_out(slice::from_ref(&hall), "the packed form has no place for them", out)?;
     Ok(Status::Good)
 }

@@ -1,12 +1,12 @@
 //! `hall report`: a page of a hall.
 
-use std::io::{self, IsTerminal, Write};
+use std::io::Write;
 
 use crate::arguments::Arguments;
 use crate::command::{Command, Failure, OUT, PROFILE, SWITCH, Status, TICKS};
 use crate::expect::meet;
 use crate::html::{page, refused_page};
-use crate::output::deliver;
+use crate::output::{deliver, refuse_terminal};
 
 pub const COMMAND: Command = Command {
     name: "report",
@@ -20,19 +20,17 @@ the status of `hall check`. Of a file that is refused it gives the reason; of on
 };
 
 fn run(arguments: &Arguments, out: &mut dyn Write) -> Result<Status, Failure> {
-    let (input, file) = (arguments.file()?, arguments.option(&OUT));
-    if file.is_none() && io::stdout().is_terminal() {
-        return Err(Failure::sentence("a page is not for a terminal: name a file, as in -o hall.html"));
-    }
+    let (inputs, file) = ([arguments.file()?], arguments.option(&OUT));
+    refuse_terminal(file, "a page is", "hall.html")?;
     let hall = match arguments.hall() {
         Err(Failure::Refused(refused)) if refused.is_read => {
-            deliver(refused_page(&refused).as_bytes(), file, input, out)?;
+            deliver(refused_page(&refused).as_bytes(), file, &inputs, out)?;
             return Err(refused.into());
         }
         other => other?,
     };
     let run = arguments.run(&hall)?;
     let met = meet(&hall, &run)?;
-    deliver(page(&hall, &run, &met)?.as_bytes(), file, input, out)?;
+    deliver(page(&hall, &run, &met)?.as_bytes(), file, &inputs, out)?;
     Ok(if met.iter().all(|met| met.is_met) { Status::Good } else { Status::Differs })
 }

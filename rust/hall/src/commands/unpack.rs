@@ -1,6 +1,7 @@
 //! `hall unpack`: from bytes to text.
 
 use std::io::Write;
+use std::slice;
 
 use redstone_text::Table;
 
@@ -27,7 +28,7 @@ fn run(arguments: &Arguments, out: &mut dyn Write) -> Result<Status, Failure> {
         .try_into()
         .map_err(|_| Failure::sentence("the text form has no place for a profile of this length"))?;
     let text = Table { profile, rows: hall.rows.clone() }.to_string();
-    deliver(text.as_bytes(), arguments.option(&OUT), arguments.file()?, out)?;
-    tell_left_out(&hall, "the rows alone are written", out)?;
+    deliver(text.as_bytes(), arguments.option(&OUT), &arguments.operands, out)?;
+    tell_left_out(slice::from_ref(&hall), "the rows alone are written", out)?;
     Ok(Status::Good)
 }

@@ -1,11 +1,9 @@
 //! Generated tables: what the program shows is what `settle` and the library give.
 
-use std::env;
-use std::ffi::OsString;
-use std::path::Path;
 use std::process::Command;
 
 use differential::generate::{self, Case};
+use differential::program::find;
 use differential::suite::with_damaged;
 use redstone::{Columns, Device, Kind, ROW_BYTES, Row, STATE_BYTES};
 
@@ -16,18 +14,6 @@ use crate::support::{hall_with, run};
 /// Accepted tables.
 pub fn cases(number: u64) -> impl Iterator<Item = Case> {
     (0..number).map(generate::case)
-}
-
-/// The proved program `settle`.
-fn settle() -> OsString {
-    let built = Path::new(env!("CARGO_MANIFEST_DIR")).join("../../target/bin/settle");
-    let program = env::var_os("SETTLE_BIN").unwrap_or(built.into());
-    assert!(
-        Path::new(&program).is_file(),
-        "The program `settle` is not at {}: run `rt check settle` in the repository's root first.",
-        program.display()
-    );
-    program
 }
 
 /// What `settle` writes, made of what `hall run` shows of tick 0. The columns of `hall csv` are the same.
@@ -59,7 +45,7 @@ fn as_settle_writes(input: &[u8]) -> String {
 
 #[test]
 fn the_settled_figures_are_those_of_settle() {
-    let program = settle();
+    let program = find("settle").unwrap_or_else(|sentence| panic!("{sentence}"));
     let (mut accepted, mut refused) = (0, 0);
     for case in with_damaged(cases(350)) {
         let input = [&case.profile[..], &case.table].concat();

@@ -9,6 +9,7 @@ mod readme;
 mod refusals;
 mod samples;
 mod stored;
+mod stream;
 mod support;
 mod text;
 mod words;

@@ -11,6 +11,8 @@ fn shell(line: &str) -> (Option<i32>, String) {
 }
 
 const COMMANDS: [&str; 6] = ["run", "levels", "check", "csv", "report", "unpack"];
+/// Those that know `-o`.
+const WRITERS: [&str; 5] = ["report", "csv", "pack", "unpack", "stream"];
 
 #[test]
 fn a_full_disk() {
@@ -22,8 +24,13 @@ fn a_full_disk() {
         );
     }
     assert_eq!(shell("$hall --help >/dev/full"), (Some(2), full.into()));
-    assert_eq!(shell("$hall pack halls/slab-rise.hall >/dev/full"), (Some(2), full.into()));
-    for command in ["report", "csv", "pack", "unpack"] {
+    for command in ["pack", "stream"] {
+        assert_eq!(
+            shell(&format!("$hall {command} halls/slab-rise.hall >/dev/full")),
+            (Some(2), full.into())
+        );
+    }
+    for command in WRITERS {
         let (status, said) = shell(&format!("$hall {command} halls/slab-rise.hall -o /dev/full"));
         assert_eq!(
             (status, said.as_str()),
@@ -56,6 +63,7 @@ fn pages_and_bytes_are_not_for_a_terminal() {
     for (command, sentence) in [
         ("report", "hall: a page is not for a terminal: name a file, as in -o hall.html."),
         ("pack", "hall: bytes are not for a terminal: name a file, as in -o hall.bin."),
+        ("stream", "hall: bytes are not for a terminal: name a file, as in -o month.bin."),
     ] {
         let line = format!("{} {command} halls/slab-rise.hall", env!("CARGO_BIN_EXE_hall"));
         let mut script = Command::new("script");
@@ -95,7 +103,7 @@ fn what_is_thrown_away_on_purpose_is_written() {
 #[test]
 fn a_file_is_the_same_as_standard_output() {
     let folder = folder("same");
-    for command in ["report", "csv", "pack", "unpack"] {
+    for command in WRITERS {
         let file = folder.join(command);
         let line = format!(
             "$hall {command} halls/slab-rise.hall -o {0} && $hall {command} halls/slab-rise.hall -o - | cmp - {0}",

@@ -28,7 +28,8 @@ fn cases() -> Vec<(Vec<String>, String)> {
             cases.push((words(&format!("{command} {sample}")), format!("{name}.{end}")));
         }
     }
-    for command in ["new", "run", "levels", "check", "report", "csv", "pack", "unpack"] {
+    cases.push((words(&format!("stream {}", samples().join(" "))), "samples.stream.bin".to_owned()));
+    for command in ["new", "run", "levels", "check", "report", "csv", "pack", "unpack", "stream"] {
         cases.push((words(&format!("{command} --help")), format!("help-{command}.txt")));
     }
     cases.push((words("--help"), "help.txt".to_owned()));

@@ -26,6 +26,12 @@ fn a_sentence_says_what_to_do() {
         ),
         (&["check"], "no file is named: give some, or - for standard input."),
         (&["check", "-", "-"], "standard input is named twice: it can be read once."),
+        (&["stream"], "no file is named: give some, or - for standard input."),
+        (&["stream", "-", LAMP, "-"], "standard input is named twice: it can be read once."),
+        (
+            &["stream", "halls/slab-rise.hall", LAMP, "-o", LAMP],
+            "halls/repeater-lock.hall is the hall itself: name another file after -o, or it would be lost.",
+        ),
         (
             &["run", LAMP, "--switch", "4"],
             "--switch 4: found \"4\", expected a switch TICK:x,y,z=on or TICK:x,y,z=off.",

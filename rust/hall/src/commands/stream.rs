@@ -1,0 +1,50 @@
+//! `hall stream`: many halls as the program `month` reads them.
+
+use std::io::Write;
+
+use crate::arguments::Arguments;
+use crate::command::{Command, Failure, OUT, PROFILE, Status};
+use crate::output::{deliver, refuse_terminal, tell_left_out};
+use crate::{Hall, Refused, input};
+
+pub const COMMAND: Command = Command {
+    name: "stream",
+    operands: "FILES..",
+    summary: "writes halls one after the other, as `month` reads them",
+    help: "\
+A stream is the profile's 13 bytes, and then each hall's table in the order given, led by its number of rows in four bytes,
+low byte first. So all of them are to have the same profile. It has no place for switches and expectations: they stay
+behind in the text.",
+    options: &[&PROFILE, &OUT],
+    run,
+};
+
+fn run(arguments: &Arguments, out: &mut dyn Write) -> Result<Status, Failure> {
+    let (files, file) = (arguments.files()?, arguments.option(&OUT));
+    let profile = arguments.profile()?;
+    let halls: Vec<_> =
+        files.iter().map(|file| input::read(file, profile.as_deref())).collect::<Result<_, _>>()?;
+    refuse_terminal(file, "bytes are", "month.bin")?;
+    deliver(&stream(&halls)?, file, files, out)?;
+    tell_left_out(&halls, "a stream has no place for them", out)?;
+    Ok(Status::Good)
+}
+
+/// The bytes of halls, of which there is one at least.
+fn stream(halls: &[Hall]) -> Result<Vec<u8>, Refused> {
+    let first = &halls[0];
+    let mut bytes = first.fresh.profile().to_vec();
+    for Hall { name, fresh, .. } in halls {
+        if fresh.profile() != first.fresh.profile() {
+            let message = format!(
+                "its profile is not that of {}, and a stream has one: leave it out, or give a profile for all with \
+                 --profile",
+                first.name
+            );
+            return Err(Refused::file(name, message));
+        }
+        bytes.extend((fresh.len() as u32).to_le_bytes());
+        bytes.extend(fresh.table());
+    }
+    Ok(bytes)
+}
