@@ -2,6 +2,7 @@
 -- Assumes nothing.
 use mathlib.Core.Path.{_≡_}
 use mathlib.Core.List.{List, [], _∷_, _++_}
+use Prim.Native.Nat.{ℕ, _+_}
 use Rattle.columns.specs.Column.{Bytes}
 use Rattle.streams.specs.declared.Ending.the-variants.{Whole}
 use Rattle.streams.specs.Stream.{streamOf}
@@ -12,6 +13,10 @@ use Rattle.totals.specs.declared.Month.{Month}
 -- "Every figure equals the sum over the tables", those that are read of the bytes s after the profile p; and how the reading ends
 unfoldable pub monthOf : Bytes → Bytes → Month
 monthOf p s = record { figures = figuresOf p (streamOf s .tables); ended = streamOf s .ending }
+
+-- the tables that were read for it, settled or refused
+abbrev pub tablesRead : Month → ℕ
+tablesRead m = m .figures .tables + m .figures .refused
 
 -- ---- what the functions promise, of input that is read bit by bit
 
