@@ -3,8 +3,7 @@
 use mathlib.Core.Path.{_≡_, refl, _∙_}
 use Prim.Native.Nat.{ℕ, _≤_, _<_}
 use native.Mathlib.Omega.{arith}
-use lib.ListN.{length, take, replicate, length-take, length-replicate}
-use lib.Seq.{length-take-le}
+use lib.ListN.{length, length-take}
 use borrow.Author.Tests.{eq-eqb, ne-eqb, le-leb, lt-leb}
 use Rattle.columns.specs.Column.{Bytes}
 use Rattle.world.specs.Rows.{rows}
@@ -16,10 +15,8 @@ use Rattle.electrical.specs.Answer.{checkCall, checkSettle}
 use Rattle.electrical.proofs.Demand.{never-unsettled}
 use Rattle.updates.specs.State.{freshDevices}
 use Rattle.running.proofs.Valid.{fresh-devices-valid}
-use Rattle.updates.specs.Calls.{checkFresh}
 use Rattle.lines.specs.Lines.{refusalText}
 use Rattle.report.specs.Text.{textOf, profileOf, tableOf, checkRun, checkWhole, runText, settleText}
-use Rattle.report.specs.Lent.{Lent}
 
 -- ---- what falls on a run
 
@@ -36,15 +33,9 @@ module _ (p t : Bytes) where
   unfolding checkRun checkSettle checkCall
   run-refused h = rw h
 
-  -- a table that is accepted has few rows, and fresh settles it in columns of one entry a row
+  -- a table that is accepted has few rows
   pub run-few : checkInput p t ≡ Accepted → rows t ≤ 1024
   run-few h = accepted-input p t h .1 .few
-
-  pub fresh-accepted : {state signal weak strong : Bytes} → checkInput p t ≡ Accepted → Lent (rows t) state signal weak strong
-      → checkFresh p t (length state) (length signal) (length weak) (length strong) ≡ Accepted
-  unfolding checkFresh
-  fresh-accepted h l =
-      rw (h, eq-eqb _ _ (l .states), eq-eqb _ _ (l .signals), eq-eqb _ _ (l .weaks), eq-eqb _ _ (l .strongs))
 
 -- ---- the text of the whole input
 
@@ -67,9 +58,3 @@ module _ (input : Bytes) where
   pub whole-text : length input ≤ 32781 → settleText input ≡ textOf (checkRun (profileOf input) (tableOf input)) (runText (profileOf input) (tableOf input))
   unfolding settleText checkWhole
   whole-text h = rw (le-leb (length input) 32781 h)
-
--- ---- the arrays
-
--- a part of an array of zeros is as long as was asked
-pub lent : (n m : ℕ) → n ≤ m → length {A = ℕ} (take n (replicate m 0)) ≡ n
-lent n m h = length-take-le n (replicate m 0) (rw length-replicate h)

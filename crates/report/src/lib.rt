@@ -2,14 +2,12 @@
 use refusals::Checked;
 use world::row;
 ghost use mathlib.Core.Path.{_≡_};
-ghost use Prim.Native.Nat.{_*_, _≤_};
+ghost use Prim.Native.Nat.{_≤_};
 ghost use lib.ListN.{length};
-ghost use Rattle.world.specs.Rows.{rows};
 ghost use Rattle.refusals.specs.declared.Checked.the-variants.{Accepted};
 ghost use Rattle.refusals.specs.Check.{checkInput};
 ghost use Rattle.text.specs.Put.{Puts};
 ghost use Rattle.report.specs.Text.{checkRun, runText, textOf, settleText, room, Reports};
-ghost use Rattle.report.specs.Lent.{Lent};
 
 // Where a buffer has this many bytes, the text has room in it.
 pub const ROOM: usize = 65536;
@@ -19,42 +17,23 @@ const PROFILE: usize = 13;
 // A profile and the largest table.
 const MOST: usize = 32781;
 
-// The text of an accepted table, which is settled in columns of one entry a row.
-fn settled_in(
-    profile: &[u8],
-    table: &[u8],
-    state: &mut [u8],
-    signal: &mut [u8],
-    weak: &mut [u8],
-    strong: &mut [u8],
-    out: &mut [u8],
-) -> usize
-    requires { ⌜ (checkInput (now profile) (now table) ≡ Accepted) × (room ≤ length (now out)) ⌝ }
-    requires { ⌜ Lent (rows (now table)) (now state) (now signal) (now weak) (now strong) ⌝ }
-    ensures { λ r. ⌜ Puts (runText (now (profile .entry)) (now (table .entry))) 0 (now (out .entry)) (now (out .exit)) r ⌝ }
-{
-    let rounds = sim::fresh(profile, table, state, signal, weak, strong);
-    lines::settled(out, table, rounds, signal, weak, strong)
-}
-
 // The text of an accepted table.
 fn settled(profile: &[u8], table: &[u8], out: &mut [u8]) -> usize
     requires { ⌜ (checkInput (now profile) (now table) ≡ Accepted) × (room ≤ length (now out)) ⌝ }
     ensures { λ r. ⌜ Puts (runText (now (profile .entry)) (now (table .entry))) 0 (now (out .entry)) (now (out .exit)) r ⌝ }
 {
-    let mut state = [0u8; 16384];
-    let mut signal = [0u8; 1024];
-    let mut weak = [0u8; 1024];
-    let mut strong = [0u8; 1024];
+    let made = initial::settle(profile, table);
+    let signal = made.signal;
+    let weak = made.weak;
+    let strong = made.strong;
     let n = row::rows(table);
-    settled_in(
-        profile,
-        table,
-        &mut state[..n * 16],
-        &mut signal[..n],
-        &mut weak[..n],
-        &mut strong[..n],
+    lines::settled(
         out,
+        table,
+        made.answer,
+        &signal[..n],
+        &weak[..n],
+        &strong[..n],
     )
 }
 

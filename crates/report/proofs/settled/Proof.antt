@@ -1,78 +1,88 @@
--- `report::settled` meets its contract: an accepted table has no more rows than the arrays have room for. Assumes nothing.
-use mathlib.Core.Path.{sym, ap, _∙_}
-use Prim.Native.Nat.{_*_, _≤_}
+-- `report::settled` meets its contract: an accepted table has no more rows than the columns have room for. Assumes nothing.
+use mathlib.Core.Path.{_≡_, sym, ap, _∙_}
+use Prim.Native.Nat.{ℕ, _≤_}
 use native.Mathlib.Omega.{arith}
+use lib.ListN.{take}
+use lib.Seq.{length-take-le}
 use borrow.Author.Needs.{needs}
-use Rattle.report.proofs.Run.{run-few, lent}
+use Rattle.columns.specs.Column.{Bytes}
+use Rattle.world.specs.Rows.{rows}
+use Rattle.report.specs.Text.{runText}
+use Rattle.report.proofs.Run.{run-few}
 use Rattle.report.proofs.settled.Statement.{statement}
 use Rattle.report.proofs.settled.Tie as tie
+
+abbrev start : tie.After-slice-known → tie.Start
+start c = c .before .before .before
+
+rows-few : (s : tie.Start) → rows (s .args .table .now) ≤ 1024
+rows-few s = run-few (s .args .profile .now) (s .args .table .now) (s .pre .0)
+
+settle-requires : tie.Need-settle-requires
+settle-requires c κs = rows-few (start c)
 
 rows-requires : tie.Need-rows-requires
 rows-requires c κs = search needs
 
-mul-state : tie.Need-mul-state
-mul-state c = search needs
+-- where the table was settled
+abbrev made : tie.After-rows → tie.After-settle
+made c = c .before .before .before .before
 
-few : (c : tie.After-rows) → c .rows .result ≤ 1024
-few c = let s = c .before .before .before .before in rw (c .rows .ensures) (run-few (s .args .profile .now) (s .args .table .now) (s .pre .0))
+-- a column has an entry for each row
+fits : (c : tie.After-rows) (room : ℕ) → room ≡ 1024 → c .rows .result ≤ room
+fits c room e = rw (e, c .rows .ensures) (rows-few (start (made c .before)))
 
-array-borrow-prefix-state : tie.Need-array-borrow-prefix-state
-array-borrow-prefix-state c = omega (arith, few c)
+array-share-prefix-signal : tie.Need-array-share-prefix-signal
+array-share-prefix-signal c = let r = c .before in fits r _ (made r .settle .ensures .sized .0)
 
-slice-aggregate-settled-in : tie.Need-slice-aggregate-settled-in
-slice-aggregate-settled-in c = sym (lent _ 16384 (omega (arith, few (c .before))))
+slice-aggregate-settled : tie.Need-slice-aggregate-settled
+slice-aggregate-settled c = let r = c .before .before in sym (length-take-le _ _ (fits r _ (made r .settle .ensures .sized .0)))
 
-array-borrow-prefix-signal : tie.Need-array-borrow-prefix-signal
-array-borrow-prefix-signal c = few (c .before)
+array-share-prefix-weak : tie.Need-array-share-prefix-weak
+array-share-prefix-weak c = let r = c .before .before in fits r _ (made r .settle .ensures .sized .1)
 
-slice-aggregate-settled-in-2 : tie.Need-slice-aggregate-settled-in-2
-slice-aggregate-settled-in-2 c = sym (lent _ 1024 (few (c .before .before)))
+slice-aggregate-settled-2 : tie.Need-slice-aggregate-settled-2
+slice-aggregate-settled-2 c = let r = c .before .before .before in sym (length-take-le _ _ (fits r _ (made r .settle .ensures .sized .1)))
 
-array-borrow-prefix-weak : tie.Need-array-borrow-prefix-weak
-array-borrow-prefix-weak c = few (c .before .before)
+array-share-prefix-strong : tie.Need-array-share-prefix-strong
+array-share-prefix-strong c = let r = c .before .before .before in fits r _ (made r .settle .ensures .sized .2)
 
-slice-aggregate-settled-in-3 : tie.Need-slice-aggregate-settled-in-3
-slice-aggregate-settled-in-3 c = sym (lent _ 1024 (few (c .before .before .before)))
+slice-aggregate-settled-3 : tie.Need-slice-aggregate-settled-3
+slice-aggregate-settled-3 c = let r = c .before .before .before .before in sym (length-take-le _ _ (fits r _ (made r .settle .ensures .sized .2)))
 
-array-borrow-prefix-strong : tie.Need-array-borrow-prefix-strong
-array-borrow-prefix-strong c = few (c .before .before .before)
-
-slice-aggregate-settled-in-4 : tie.Need-slice-aggregate-settled-in-4
-slice-aggregate-settled-in-4 c = sym (lent _ 1024 (few (c .before .before .before .before)))
-
-settled-in-requires : tie.Need-settled-in-requires
-settled-in-requires c κs =
-    let r = c .before .before .before .before .before in
-    let column = lent _ 1024 (few r) ∙ r .rows .ensures in (
-      (c .before .before .before .before .before .before .before .before .before .pre),
-      record {
-        states = lent _ 16384 (omega (arith, few r)) ∙ ap (λ k. k * 16) (r .rows .ensures);
-        signals = column;
-        weaks = column;
-        strongs = column;
-      },
-    )
+settled-requires : tie.Need-settled-requires
+settled-requires c κs =
+    let r = c .before .before .before .before in let s = start (made r .before) in omega (arith, rows-few s, s .pre .1)
 
 same-length : tie.Need-same-length
 same-length c = search needs
 
 returns : tie.Need-returns
-returns c = search needs
+unfolding runText
+returns c =
+    let put = c .before .before in
+    let r = put .before .before .before .before .before in
+    let s = made r .settle .ensures in
+    let accepted = start (made r .before) .pre .0 in
+    let first : (column : Bytes) → take (r .rows .result) column ≡ take (rows (start (made r .before) .args .table .now)) column = λ column. ap (λ n. take n column) (r .rows .ensures) in
+    let signal = first _ ∙ s .signals accepted in
+    let weak = first _ ∙ s .weaks accepted in
+    let strong = first _ ∙ s .strongs accepted in
+    let rounds = rw accepted at (s .answer) in
+    rw (← rounds, ← signal, ← weak, ← strong) (put .settled .ensures)
 
 pub settled-spec : {M : Type 1} → statement M
 settled-spec =
     tie.close
     (tie.spec
+    settle-requires
     rows-requires
-    mul-state
-    array-borrow-prefix-state
-    slice-aggregate-settled-in
-    array-borrow-prefix-signal
-    slice-aggregate-settled-in-2
-    array-borrow-prefix-weak
-    slice-aggregate-settled-in-3
-    array-borrow-prefix-strong
-    slice-aggregate-settled-in-4
-    settled-in-requires
+    array-share-prefix-signal
+    slice-aggregate-settled
+    array-share-prefix-weak
+    slice-aggregate-settled-2
+    array-share-prefix-strong
+    slice-aggregate-settled-3
+    settled-requires
     same-length
     returns)
