@@ -8,9 +8,11 @@ fn the_original_was_not_found() {
 
 #[cfg(not(no_original))]
 mod compared {
+    use std::env::temp_dir;
     use std::ffi::OsString;
-    use std::fs::File;
+    use std::fs::{File, create_dir_all, remove_dir_all, write};
     use std::io::Write;
+    use std::path::Path;
     use std::process::Command;
 
     use differential::generate::{BENCH_PROFILE, Case};
@@ -256,6 +258,48 @@ mod compared {
                 assert_eq!(figures, sums);
             }
         }
+    }
+
+    /// What bin/add-months makes of these texts, each in a file of its own: the sums, or the sentence that refuses them.
+    fn added_up(texts: &[&str]) -> Result<String, String> {
+        let folder = temp_dir().join(format!("add-months-{}", std::process::id()));
+        create_dir_all(&folder).expect("a folder");
+        let files: Vec<_> = (0..texts.len()).map(|number| folder.join(number.to_string())).collect();
+        for (file, text) in files.iter().zip(texts) {
+            write(file, text).expect("a file");
+        }
+        let script = Path::new(env!("CARGO_MANIFEST_DIR")).join("../../bin/add-months");
+        let done = Command::new(script).args(&files).output().expect("the script runs");
+        remove_dir_all(folder).expect("the folder goes");
+        let text = |bytes| String::from_utf8(bytes).expect("UTF-8");
+        if done.status.success() { Ok(text(done.stdout)) } else { Err(text(done.stderr)) }
+    }
+
+    /// The script of the README: streams that are counted apart, and their sums.
+    #[test]
+    fn months_are_added_up_by_the_script() {
+        let cases: Vec<_> = good_cases(150).collect();
+        let profile = &cases[0].profile;
+        let parts: Vec<_> = cases.chunks(CASES_OF_A_STREAM).map(tables).collect();
+        let counted: Vec<_> = parts.iter().map(|tables| written(&stream(profile, tables))).collect();
+        let counted: Vec<_> = counted.iter().map(String::as_str).collect();
+        assert_eq!(added_up(&counted).as_deref(), Ok(&written(&stream(profile, parts.concat()))[..]));
+        let whole = stream(profile, &parts[0]);
+        let cut = written(&whole[..whole.len() - 1]);
+        let few_lines = counted[0].split_inclusive('\n').take(20).collect::<String>();
+        for (text, sentence) in [
+            (&cut[..], "it ended as cut"),
+            ("refusal=1\nplace=0\n", "its profile was refused"),
+            (&few_lines, "it has 20 lines"),
+            ("", "it is empty"),
+            ("tables=many\n", "line 1 is not NAME=NUMBER"),
+        ] {
+            for texts in [[counted[0], text], [text, counted[0]]] {
+                let refused = added_up(&texts).expect_err("a file that cannot be added");
+                assert!(refused.contains(sentence) && refused.lines().count() == 1, "{refused:?}");
+            }
+        }
+        assert!(added_up(&[]).expect_err("no files").contains("name the files"));
     }
 
     #[test]
