@@ -54,7 +54,7 @@ settling limit t =
     answerOf c (roundsOf benchProfile t d) ∷ written c old (s .signal) ++ written c old (s .weak) ++ written c old (s .strong)
 
 -- test 3's table
-line : Bytes
+unfoldable pub line : Bytes
 line =
     block RedstoneBlock 0 1 0 ++ block Solid 1 0 0 ++ block RedstoneWire 1 1 0 ++ block Solid 2 0 0 ++ block RedstoneWire 2 1 0
 

@@ -12,6 +12,8 @@ use Rattle.columns.specs.Column.{Bytes, Column, row}
 use Rattle.columns.specs.Signal.{maxSignal}
 use Rattle.network.specs.Network.{Rounds, Satisfies, Breaks}
 use Rattle.network.specs.Compare.{Larger, AtMost, Within, AtEveryRow₂, AtEveryRow₃, States₂, States₃, Bounded, PowerOnMap}
+use Rattle.network.specs.Settled.{settled as networkSettled}
+use Rattle.network.specs.Laws.States.{Sized, after-sized}
 use Rattle.network.specs.Demand as Network
 use Rattle.blocks.specs.Kind.{isDust}
 use Rattle.world.specs.Rows.{rows, kindOf}
@@ -188,6 +190,11 @@ module _ (p t : Bytes) (d : Column) where
   pub off-map : (i : ℕ) → conducts (traits p t i) ≡ false → (row (settled p t d .weak) i ≡ 0) × (row (settled p t d .strong) i ≡ 0)
   unfolding settled networkOf
   off-map = Network.off-map (networkOf p t) (emitted t d) (on-map p t)
+
+  -- every settled column has one entry a row
+  pub settled-sized : Sized (rows t) (settled p t d)
+  unfolding settled networkSettled networkOf
+  settled-sized = after-sized (networkOf p t) (emitted t d) _
 
   -- every settled level of dust is at most the cap, whatever the devices emit
   pub settled-capped : (i : ℕ) → i < rows t → isDust (kindOf t i) ≡ true → row (settled p t d .signal) i ≤ maxSignal

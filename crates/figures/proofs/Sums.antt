@@ -11,7 +11,7 @@ use native.Mathlib.Omega.{arith}
 use lib.ListN.{length, List·getD-eq-default}
 use lib.Dec.{eqb}
 use Rattle.columns.specs.Column.{Bytes, Column, row, tabulate}
-use Rattle.columns.proofs.Columns.{length-tabulate, row-tabulate, same-rule}
+use Rattle.columns.proofs.Columns.{length-tabulate, row-tabulate, same-rule, is-tabulate}
 use Rattle.world.specs.Rows.{rows}
 use Rattle.refusals.specs.declared.Checked.{Checked}
 use Rattle.refusals.specs.declared.Checked.the-variants.{Accepted, Refused}
@@ -37,9 +37,6 @@ module _ (f : Bytes → ℕ) where
   unfolding sumOf
   sum-one t = omega arith
 
-  sum-more : (ts : List Bytes) (t : Bytes) → sumOf f (ts ++ t ∷ []) ≡ sumOf f ts + f t
-  sum-more ts t = rw (sum-append ts (t ∷ []), sum-one t)
-
   sum-most : (m : ℕ) → ((t : Bytes) → f t ≤ m) → (ts : List Bytes) → sumOf f ts ≤ length ts * m
   unfolding sumOf
   sum-most m h [] = zero-le
@@ -55,21 +52,23 @@ sums-most n m f h k =
 
 -- ---- columns of sums
 
-module _ (n : ℕ) (f : ℕ → Bytes → ℕ) (ts : List Bytes) where
+module _ (n : ℕ) (f : ℕ → Bytes → ℕ) where
   abbrev sums : List Bytes → Column
-  sums us = tabulate n (λ k. sumOf (f k) us)
+  sums ts = tabulate n (λ k. sumOf (f k) ts)
 
-  sums-append : (us : List Bytes) → sums (ts ++ us) ≡ tabulate n (λ k. row (sums ts) k + row (sums us) k)
-  sums-append us =
-      same-rule n _ _
-      (λ k l. sum-append (f k) ts us ∙ sym (rw (row-tabulate n (λ k. sumOf (f k) ts) k l, row-tabulate n (λ k. sumOf (f k) us) k l)))
+  row-sums : (ts : List Bytes) (k : ℕ) → k < n → row (sums ts) k ≡ sumOf (f k) ts
+  row-sums ts k l = row-tabulate n (λ k. sumOf (f k) ts) k l
 
-  module _ (t : Bytes) where
-    sums-more : (g : ℕ → ℕ) → ((k : ℕ) → f k t ≡ g k) → sums (ts ++ t ∷ []) ≡ tabulate n (λ k. row (sums ts) k + g k)
-    sums-more g e = same-rule n _ _ (λ k l. sum-more (f k) ts t ∙ sym (rw (row-tabulate n (λ k. sumOf (f k) ts) k l, e k)))
+  sums-append : (ts us : List Bytes) → sums (ts ++ us) ≡ tabulate n (λ k. row (sums ts) k + row (sums us) k)
+  sums-append ts us = same-rule n _ _ (λ k l. sum-append (f k) ts us ∙ sym (rw (row-sums ts k l, row-sums us k l)))
 
-    sums-same : ((k : ℕ) → f k t ≡ 0) → sums (ts ++ t ∷ []) ≡ sums ts
-    sums-same e = same-rule n _ _ (λ k l. sum-more (f k) ts t ∙ rw (e k, add-zero))
+  -- a column and one table more, that adds g, or nothing
+  module _ (t : Bytes) (column : Column) where
+    sums-more : (g : ℕ → ℕ) → ((k : ℕ) → f k t ≡ g k) → tabulate n (λ k. row column k + row (sums (t ∷ [])) k) ≡ tabulate n (λ k. row column k + g k)
+    sums-more g e = same-rule n _ _ (λ k l. rw (row-sums (t ∷ []) k l, sum-one (f k) t, e k))
+
+    sums-same : length column ≡ n → ((k : ℕ) → f k t ≡ 0) → tabulate n (λ k. row column k + row (sums (t ∷ [])) k) ≡ column
+    sums-same h e = sym (is-tabulate column n _ h (λ k l. rw (row-sums (t ∷ []) k l, sum-one (f k) t, e k, add-zero)))
 
 -- ---- each table is settled or refused
 
@@ -96,6 +95,7 @@ module _ (p : Bytes) where
   unfolding figuresOf
   figures-room ts h =
       record {
+        sized = (length-tabulate 17 0 _, length-tabulate 16 0 _);
         tables = omega (arith, sum-most (settledIn p) 1 (λ t. number-most (isSettled p t)) ts);
         refused = omega (arith, sum-most (refusedIn p) 1 (λ t. number-most (not (isSettled p t))) ts);
         rounds =
@@ -112,19 +112,23 @@ module _ (p : Bytes) where
   figures-append ts us =
       rw (sum-append (settledIn p) ts us, sum-append (refusedIn p) ts us, sums-append 17 (λ k. roundsIn p (k + 1)) ts us, sums-append 16 (levelIn p) ts us)
 
-  -- with a table more that is settled
-  pub figures-settled : (ts : List Bytes) (t : Bytes) → checkInput p t ≡ Accepted
-      → figuresOf p (ts ++ t ∷ []) ≡ withSettled (figuresOf p ts) t (roundsOf p t (freshDevices t)) (settled p t (freshDevices t) .signal)
-  unfolding figuresOf withSettled
-  figures-settled ts t h =
-      let rounds = sums-more 17 (λ k. roundsIn p (k + 1)) ts t (λ k. number (eqb (roundsOf p t (freshDevices t)) (k + 1))) (λ k. rw h) in
-      let levels = sums-more 16 (levelIn p) ts t (dustAt t (settled p t (freshDevices t) .signal)) (λ l. rw h) in
-      rw (sum-more (settledIn p) ts t, sum-more (refusedIn p) ts t, h, rounds, levels, add-zero)
+  -- ---- one table more, of figures of any kind
 
-  -- or refused
-  pub figures-refused : (ts : List Bytes) (t : Bytes) {n i : ℕ} → checkInput p t ≡ Refused n i → figuresOf p (ts ++ t ∷ []) ≡ withRefused (figuresOf p ts)
-  unfolding figuresOf
-  figures-refused ts t h =
-      let rounds = sums-same 17 (λ k. roundsIn p (k + 1)) ts t (λ k. rw h) in
-      let levels = sums-same 16 (levelIn p) ts t (λ l. rw h) in
-      rw (sum-more (settledIn p) ts t, sum-more (refusedIn p) ts t, h, rounds, levels, add-zero)
+  module _ (f : Figures) (t : Bytes) where
+    -- that is settled
+    pub added-settled : checkInput p t ≡ Accepted
+        → added f (figuresOf p (t ∷ [])) ≡ withSettled f t (roundsOf p t (freshDevices t)) (settled p t (freshDevices t) .signal)
+    unfolding figuresOf withSettled
+    added-settled h =
+        let rounds = sums-more 17 (λ k. roundsIn p (k + 1)) t (f .rounds) (λ k. number (eqb (roundsOf p t (freshDevices t)) (k + 1))) (λ k. rw h) in
+        let levels = sums-more 16 (levelIn p) t (f .levels) (dustAt t (settled p t (freshDevices t) .signal)) (λ l. rw h) in
+        rw (sum-one (settledIn p) t, sum-one (refusedIn p) t, h, rounds, levels, add-zero)
+
+    -- or refused
+    pub added-refused : {n i : ℕ} → checkInput p t ≡ Refused n i → length (f .rounds) ≡ 17 → length (f .levels) ≡ 16
+        → added f (figuresOf p (t ∷ [])) ≡ withRefused f
+    unfolding figuresOf
+    added-refused h r l =
+        let rounds = sums-same 17 (λ k. roundsIn p (k + 1)) t (f .rounds) r (λ k. rw h) in
+        let levels = sums-same 16 (levelIn p) t (f .levels) l (λ l. rw h) in
+        rw (sum-one (settledIn p) t, sum-one (refusedIn p) t, h, rounds, levels, add-zero)

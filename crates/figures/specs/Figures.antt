@@ -21,19 +21,19 @@ abbrev pub isAccepted : Checked → Bool
 isAccepted Accepted = true
 isAccepted (Refused n i) = false
 
--- it is settled where no refusal falls on it
+-- it is settled where no refusal falls on it. Number 8, "limit below the rounds needed", never does: no table needs more rounds than 17
 abbrev pub isSettled : Bytes → Bytes → Bool
 isSettled p t = isAccepted (checkInput p t)
 
--- "`tables=` (those settled)"
+-- 1 where it is settled: "`tables=` (those settled)"
 abbrev pub settledIn : Bytes → Bytes → ℕ
 settledIn p t = number (isSettled p t)
 
--- "A refused table adds to `refused=` and to nothing else"
+-- 1 where it is refused: "A refused table adds to `refused=` and to nothing else"
 abbrev pub refusedIn : Bytes → Bytes → ℕ
 refusedIn p t = number (not (isSettled p t))
 
--- "It settles each with fresh devices": in k rounds
+-- "It settles each with fresh devices": 1 where it settles in k rounds
 abbrev pub roundsIn : Bytes → ℕ → Bytes → ℕ
 roundsIn p k t = number (isSettled p t && eqb (roundsOf p t (freshDevices t)) k)
 
@@ -46,10 +46,11 @@ countBelow f (suc n) = countBelow f n + number (f n)
 abbrev pub isDustAt : Bytes → Column → ℕ → ℕ → Bool
 isDustAt t signal l i = isDust (kindOf t i) && eqb (row signal i) l
 
--- the dust rows of the level l
+-- how many rows are dust of the level l
 abbrev pub dustAt : Bytes → Column → ℕ → ℕ
 dustAt t signal l = countBelow (isDustAt t signal l) (rows t)
 
+-- how many of its rows are dust that settles to the level l
 abbrev pub levelIn : Bytes → ℕ → Bytes → ℕ
 levelIn p l t = cond (isSettled p t) (dustAt t (settled p t (freshDevices t) .signal) l) 0
 

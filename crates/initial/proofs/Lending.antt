@@ -1,26 +1,38 @@
--- Laws of what fresh leaves in columns of one entry a row, which are the front of arrays.
+-- Laws of what fresh leaves in columns of one entry a row, which are the front of arrays of zeros.
 -- Assumes nothing.
-use mathlib.Core.Path.{_≡_, refl, _∙_}
-use mathlib.Core.List.{_++_}
+use mathlib.Core.Path.{_≡_, refl, ap, _∙_}
 use mathlib.Core.Bool.{true}
+use mathlib.Core.List.{_++_}
 use Prim.Native.Nat.{ℕ, _*_, _≤_}
-use lib.ListN.{length, take, drop, replicate, length-replicate}
-use lib.Seq.{length-take-le, length-front}
+use native.Mathlib.Omega.{arith}
+use lib.ListN.{length, take, drop, replicate, length-append, length-drop, length-replicate, take-append-drop}
+use lib.Seq.{length-take-le, take-at}
 use borrow.Author.Tests.{eq-eqb}
-use Rattle.columns.specs.Column.{Bytes}
+use Rattle.columns.specs.Column.{Bytes, Column}
 use Rattle.world.specs.Rows.{rows}
 use Rattle.refusals.specs.declared.Checked.{Checked}
 use Rattle.refusals.specs.declared.Checked.the-variants.{Accepted, Refused}
-use Rattle.refusals.specs.Check.{checkInput, also}
+use Rattle.refusals.specs.Check.{checkInput, also, written}
 use Rattle.updates.specs.Calls.{checkFresh}
+use Rattle.initial.specs.SettlesFresh.{zeros, columnOf}
 
 -- a part of an array of zeros is as long as was asked
 pub lent : (n m : ℕ) → n ≤ m → length {A = ℕ} (take n (replicate m 0)) ≡ n
 lent n m h = length-take-le n (replicate m 0) (rw length-replicate h)
 
--- and the array is as long as it was once the part has come back
-pub given-back : (n m : ℕ) (e : Bytes) → length e ≡ length {A = ℕ} (take n (replicate m 0)) → length (e ++ drop n (replicate m 0)) ≡ m
-given-back n m e q = length-front (replicate m 0) e n q ∙ length-replicate m 0
+-- once the part has come back, the array is the column
+pub given-back : (n : ℕ) (c : Checked) (numbers last : Column) → length last ≡ n → last ≡ written c (take n zeros) numbers → last ++ drop n zeros ≡ columnOf c numbers
+given-back n Accepted numbers last l e = rw (← l, e)
+given-back n (Refused k i) numbers last l e = ap (λ s. s ++ drop n zeros) e ∙ take-append-drop n zeros
+
+-- and its first entries are the numbers, where nothing was refused
+pub column-front : (n : ℕ) (c : Checked) (numbers column : Column) → c ≡ Accepted → length numbers ≡ n → column ≡ columnOf c numbers → take n column ≡ numbers
+column-front n c numbers column a l e = rw (e, a) (take-at numbers (drop (length numbers) zeros) n l)
+
+-- it has 1,024 entries
+pub column-sized : (c : Checked) (numbers : Column) → length numbers ≤ 1024 → length (columnOf c numbers) ≡ 1024
+column-sized Accepted numbers l = rw (length-append, length-drop, length-replicate) (omega arith)
+column-sized (Refused n i) numbers l = length-replicate {A = ℕ} 1024 0
 
 or-accepted : (c : Checked) → also c 7 true ≡ c
 or-accepted Accepted = refl

@@ -2,9 +2,9 @@
 use world::row;
 ghost use Prim.Native.Nat.{_≤_};
 ghost use Rattle.world.specs.Rows.{rows};
-ghost use Rattle.initial.specs.Starts.{Starts};
+ghost use Rattle.initial.specs.SettlesFresh.{SettlesFresh};
 
-// The rounds or the refusal, and three columns, of which the first entries are the rows'.
+// The rounds or the refusal, and three columns: an entry for each row, and then zeros.
 pub struct Initial {
     pub answer: u32,
     pub signal: [u8; 1024],
@@ -15,7 +15,7 @@ pub struct Initial {
 // Settles a table of at most 1,024 rows with its fresh devices.
 pub fn settle(profile: &[u8], table: &[u8]) -> Initial
     requires { ⌜ rows (now table) ≤ 1024 ⌝ }
-    ensures { λ r. ⌜ Starts (now (profile .entry)) (now (table .entry)) r ⌝ }
+    ensures { λ r. ⌜ SettlesFresh (now (profile .entry)) (now (table .entry)) r ⌝ }
 {
     let mut state = [0u8; 16384];
     let mut signal = [0u8; 1024];

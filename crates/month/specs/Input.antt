@@ -1,12 +1,13 @@
--- What the program has read. That the bytes are those of the input cannot be said: the contracts of read and write do not speak of the bytes that
--- they move. So what the program reads and writes is tested, and only the figures and the text for what was read are proved.
+-- What a reading leaves in the buffer. That the bytes are those of the input cannot be said: the contracts of read and write do not speak of the
+-- bytes that they move. So it is proved that the program's month is that of some stream, and what text it makes of it; that this stream is
+-- the input after the profile, all of it and once, is tested.
 -- Assumes nothing.
-use mathlib.Core.Path.{_≡_}
+use Prim.Native.Nat.{ℕ, _+_, _≤_}
+use lib.ListN.{length}
 use Rattle.columns.specs.Column.{Bytes}
-use Rattle.totals.specs.declared.Month.{Month}
-use Rattle.totals.specs.Month.{monthOf}
+use Rattle.streams.specs.Stream.{bytesToRead}
 
--- the month of the bytes that were read after the profile p
-pub record Counted (p : Bytes) (m : Month) : Type 0 where
-  pub input : Bytes
-  pub is : m ≡ monthOf p input
+-- The first r bytes of the buffer are no more than one row count and its table.
+pub record IsPiece (buf : Bytes) (r : ℕ) : Type 0 where
+  pub within : r ≤ length buf
+  pub one : r ≤ 4 + bytesToRead buf

@@ -4,13 +4,12 @@ use libc::STDIN_FILENO;
 use libc::STDOUT_FILENO;
 use streams::COUNT_BYTES;
 use streams::Ending;
-use streams::MOST_ROWS;
 use streams::MOST_TABLES;
 use totals::Month;
-use world::row::WIDTH;
 ghost use Prim.Native.Nat.{_≤_};
 ghost use lib.ListN.{length};
-ghost use Rattle.month.specs.Input.{Counted};
+ghost use Rattle.totals.specs.Month.{IsMonth};
+ghost use Rattle.month.specs.Input.{IsPiece};
 
 const PROFILE_BYTES: usize = 13;
 
@@ -29,47 +28,45 @@ fn progress(tables: u64) {
         let mut line = io::buffer();
         let number = text::bytes(&mut line, 0, b"month: ");
         let last = text::number(&mut line, number, tables, b' ');
-        let n = text::bytes(&mut line, last, b"tables\n");
+        let n = text::bytes(&mut line, last, b"tables read\n");
         say(&line[..n]);
     }
-}
-
-// The bytes to read after a row count: those of its table, and none where there are too many rows.
-fn table_bytes(count: &[u8]) -> usize
-    ensures { λ r. ⌜ r ≤ 32768 ⌝ }
-{
-    let rows = streams::row_count(count);
-    if MOST_ROWS < rows {
-        return 0;
-    }
-    rows * WIDTH
 }
 
 // Reads a row count and its table into the front of a buffer, and answers how many bytes they are: fewer where the input ends.
 fn read_table(buf: &mut [u8]) -> usize
     requires { ⌜ 32772 ≤ length (now buf) ⌝ }
-    ensures { λ r. ⌜ r ≤ length (now (buf .exit)) ⌝ }
+    ensures { λ r. ⌜ IsPiece (now (buf .exit)) r ⌝ }
 {
     let n = io::read_full(STDIN_FILENO, &mut buf[0..COUNT_BYTES]);
     if n < COUNT_BYTES {
         return n;
     }
-    let end = COUNT_BYTES + table_bytes(buf);
+    let end = COUNT_BYTES + streams::bytes_to_read(buf);
     n + io::read_full(STDIN_FILENO, &mut buf[COUNT_BYTES..end])
 }
 
-// The month of the tables that are read, one at a time, until the reading ends: at the latest with what comes after the last that may be read.
+// Reads one byte into the front of a buffer, if there is one, and answers how many there were.
+fn read_byte(buf: &mut [u8]) -> usize
+    requires { ⌜ 1 ≤ length (now buf) ⌝ }
+    ensures { λ r. ⌜ r ≤ length (now (buf .exit)) ⌝ }
+{
+    io::read_full(STDIN_FILENO, &mut buf[0..1])
+}
+
+// The month of the tables that are read, one at a time, until the reading ends. After the last table that may be read one byte more tells whether
+// the input ends there, too.
 fn count(profile: &[u8], buf: &mut [u8]) -> Month
     requires { ⌜ 32772 ≤ length (now buf) ⌝ }
-    ensures { λ r. ⌜ Counted (now (profile .entry)) r ⌝ }
+    ensures { λ r. ⌜ IsMonth (now (profile .entry)) r ⌝ }
 {
     let mut month = totals::start();
     let mut tables = 0;
-    while tables <= MOST_TABLES {
+    while tables < MOST_TABLES {
         let n = read_table(buf);
         let next = totals::read(month, profile, &buf[..n]);
-        let ended = next.ended;
-        let Ending::Whole = ended else {
+        let ending = next.ending;
+        let Ending::Whole = ending else {
             return next;
         };
         if n == 0 {
@@ -79,17 +76,18 @@ fn count(profile: &[u8], buf: &mut [u8]) -> Month
         tables += 1;
         progress(tables);
     }
-    month
+    let n = read_byte(buf);
+    totals::read(month, profile, &buf[..n])
 }
 
-// Whether one more read finds the end of the input: after a read that failed it does not.
+// Whether one more read finds the end of the input. It is taken that after a read that failed it does not.
 fn at_end() -> bool {
     let mut one = [0u8; 1];
     libc::read(STDIN_FILENO, &mut one) == 0
 }
 
-fn is_count(ended: Ending) -> bool {
-    match ended {
+fn is_count(ending: Ending) -> bool {
+    match ending {
         Ending::Whole => false,
         Ending::Cut => false,
         Ending::Count => true,
@@ -99,7 +97,7 @@ fn is_count(ended: Ending) -> bool {
 // Writes the output for a profile and the month of the tables after it.
 fn report(profile: &[u8], month: Month) {
     let mut out = io::buffer();
-    let n = month_lines::output(&mut out, profile, month);
+    let n = month_lines::text_of(&mut out, profile, month);
     if !io::write_all(STDOUT_FILENO, &out[..n]) {
         say(b"month: standard output cannot be written\n");
     }
@@ -118,8 +116,8 @@ fn report_if(stopped: bool, profile: &[u8], month: Month) {
 fn count_tables(profile: &[u8]) {
     let mut buf = [0u8; MOST_BYTES];
     let month = count(profile, &mut buf);
-    let ended = month.ended;
-    report_if(is_count(ended), profile, month);
+    let ending = month.ending;
+    report_if(is_count(ending), profile, month);
 }
 
 fn main() {

@@ -1,14 +1,12 @@
 -- The lines that the program `month` writes: "one to a line". What stands in quotation marks is document 02's, Change 1.
 -- Assumes nothing.
-use mathlib.Core.Path.{_≡_}
-use mathlib.Core.Bool.{true, cond}
+use mathlib.Core.Bool.{cond}
 use mathlib.Core.List.{_++_}
-use Prim.Native.Nat.{ℕ, _+_, _≤_}
+use Prim.Native.Nat.{ℕ, _+_}
 use lib.ListN.{length, take, drop}
 use Rattle.columns.specs.Column.{Bytes, Column, row, concatRows}
 use Rattle.columns.specs.Ascii.{ascii}
 use Rattle.layout.specs.Good.{goodProfile}
-use Rattle.text.specs.Put.{Puts}
 use Rattle.text.specs.Text.{decimalOf, lineOf}
 use Rattle.lines.specs.Lines.{refusalText}
 use Rattle.streams.specs.declared.Ending.{Ending}
@@ -20,7 +18,7 @@ use Rattle.totals.specs.Month.{monthOf}
 unfoldable pub numberedLine : Bytes → ℕ → ℕ → Bytes
 numberedLine name k n = name ++ decimalOf k ++ ascii "=" ++ decimalOf n ++ ascii "\n"
 
--- such a line for each entry of a column, whose first has this number
+-- such a line for each entry of a column; the first line has the number `first`
 unfoldable pub numberedLines : Bytes → ℕ → Column → Bytes
 numberedLines name first counts = concatRows (length counts) (λ k. numberedLine name (first + k) (row counts k))
 
@@ -35,24 +33,21 @@ unfoldable pub monthText : Month → Bytes
 monthText m =
     lineOf (ascii "tables=") (m .figures .tables) ++ lineOf (ascii "refused=") (m .figures .refused)
     ++ numberedLines (ascii "rounds_") 1 (m .figures .rounds) ++ numberedLines (ascii "level_") 0 (m .figures .levels)
-    ++ endedText (m .ended)
+    ++ endedText (m .ending)
 
 -- ---- the whole input
+
+-- "A bad profile gives only `refusal=` and `place=`, as in `settle`": number 1, row 0. Else the month of the tables after it
+unfoldable pub textOf : Bytes → Month → Bytes
+textOf p m = cond (goodProfile p) (monthText m) (refusalText 1 0)
 
 -- "reads a 13-byte profile, then tables"
 abbrev pub profileOf : Bytes → Bytes
 profileOf input = take 13 input
 
-abbrev pub tablesOf : Bytes → Bytes
-tablesOf input = drop 13 input
+abbrev pub afterProfile : Bytes → Bytes
+afterProfile input = drop 13 input
 
--- "A bad profile gives only `refusal=` and `place=`, as in `settle`": number 1, row 0
+-- what the program writes for its whole input
 unfoldable pub outputOf : Bytes → Bytes
-outputOf input =
-    cond (goodProfile (profileOf input)) (monthText (monthOf (profileOf input) (tablesOf input))) (refusalText 1 0)
-
--- Whatever the input is: where p is its profile, and, if that is good, m the month of its tables, its output is put at the front.
-pub record Outputs (p : Bytes) (m : Month) (old new : Bytes) (r : ℕ) : Type 0 where
-  pub is : (input : Bytes) → p ≡ profileOf input → (goodProfile p ≡ true → m ≡ monthOf p (tablesOf input)) → Puts (outputOf input) 0 old new r
-  -- it follows from the line above, and spares the caller the proof
-  pub within : r ≤ length new
+outputOf input = textOf (profileOf input) (monthOf (profileOf input) (afterProfile input))

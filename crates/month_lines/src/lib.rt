@@ -5,7 +5,7 @@ ghost use Prim.Native.Nat.{_+_, _*_, _≤_};
 ghost use lib.ListN.{length};
 ghost use Rattle.text.specs.Put.{Puts};
 ghost use Rattle.columns.specs.Ascii.{ascii};
-ghost use Rattle.month_lines.specs.Lines.{numberedLine, numberedLines, endedText, monthText, Outputs};
+ghost use Rattle.month_lines.specs.Lines.{numberedLine, numberedLines, endedText, monthText, textOf};
 
 // A name of at most seven bytes, its number and a figure, as a line.
 fn numbered_line(out: &mut [u8], at: usize, name: &[u8], k: usize, n: u64) -> usize
@@ -52,11 +52,11 @@ fn level_lines(out: &mut [u8], at: usize, levels: [u64; 16]) -> usize
 }
 
 // How the reading ended.
-fn ended_line(out: &mut [u8], at: usize, ended: Ending) -> usize
+fn ended_line(out: &mut [u8], at: usize, ending: Ending) -> usize
     requires { ⌜ at + 12 ≤ length (now out) ⌝ }
-    ensures { λ r. ⌜ Puts (endedText ended) at (now (out .entry)) (now (out .exit)) r ⌝ }
+    ensures { λ r. ⌜ Puts (endedText ending) at (now (out .entry)) (now (out .exit)) r ⌝ }
 {
-    match ended {
+    match ending {
         Ending::Whole => text::bytes(out, at, b"ended=whole\n"),
         Ending::Cut => text::bytes(out, at, b"ended=cut\n"),
         Ending::Count => text::bytes(out, at, b"ended=count\n"),
@@ -71,18 +71,18 @@ fn all_lines(out: &mut [u8], month: Month) -> usize
     let figures = month.figures;
     let rounds = figures.rounds;
     let levels = figures.levels;
-    let ended = month.ended;
+    let ending = month.ending;
     let second = text::line(out, 0, b"tables=", figures.tables);
     let third = text::line(out, second, b"refused=", figures.refused);
     let fourth = rounds_lines(out, third, rounds);
     let last = level_lines(out, fourth, levels);
-    ended_line(out, last, ended)
+    ended_line(out, last, ending)
 }
 
-// The output for a whole input, at the front: of its profile, and of the month of its tables where the profile is good.
-pub fn output(out: &mut [u8], profile: &[u8], month: Month) -> usize
+// The text for a profile and the month of the tables after it, at the front.
+pub fn text_of(out: &mut [u8], profile: &[u8], month: Month) -> usize
     requires { ⌜ 2048 ≤ length (now out) ⌝ }
-    ensures { λ r. ⌜ Outputs (now (profile .entry)) month (now (out .entry)) (now (out .exit)) r ⌝ }
+    ensures { λ r. ⌜ Puts (textOf (now (profile .entry)) month) 0 (now (out .entry)) (now (out .exit)) r ⌝ }
 {
     if layout::good_profile(profile) {
         return all_lines(out, month);

@@ -16,7 +16,7 @@ use Rattle.streams.specs.declared.Ending.{Ending}
 use Rattle.streams.specs.declared.Ending.the-variants.{Whole, Cut, Count}
 use Rattle.streams.specs.declared.Front.{Front}
 use Rattle.streams.specs.declared.Front.the-variants.{Table, Ends}
-use Rattle.streams.specs.Stream.{tableBytes, firstTable, laterTables, openFront, fullEnding, frontOf, Stream, ended, led, goOn, readWithin, mostTables, streamOf}
+use Rattle.streams.specs.Stream.{tableBytes, bytesToRead, firstTable, laterTables, openFront, fullEnding, frontOf, Stream, endsAs, led, goOn, readWithin, mostTables, streamOf}
 
 -- ---- what stands at the front of s
 
@@ -82,9 +82,9 @@ front-table (suc left) s h = (omega arith, go (front-view s))
     go (inr (inl t)) = t
     go (inr (inr k)) = let z : _≡_ {A = ℕ} 0 1 = cc (rw (k .is) at opened) in absurd (omega arith)
 
-pub front-ends : (left : ℕ) (s : Bytes) (e : Ending) → frontOf left s ≡ Ends e → readWithin left s ≡ ended e
+pub front-ends : (left : ℕ) (s : Bytes) (e : Ending) → frontOf left s ≡ Ends e → readWithin left s ≡ endsAs e
 unfolding readWithin
-front-ends zero s e h = let same : fullEnding s ≡ e = cc in ap ended same
+front-ends zero s e h = let same : fullEnding s ≡ e = cc in ap endsAs same
 front-ends (suc left) s e h = rw (sym (front-open left s) ∙ h)
 
 -- ---- what is read of it
@@ -106,7 +106,7 @@ unfolding readWithin
 read-table n t = rw (table-front t)
 
 -- of no bytes there is nothing to read, and they end whole
-pub read-nothing : (n : ℕ) → readWithin n [] ≡ ended Whole
+pub read-nothing : (n : ℕ) → readWithin n [] ≡ endsAs Whole
 unfolding readWithin
 read-nothing zero = refl
 read-nothing (suc n) = refl
@@ -162,6 +162,13 @@ read-append (suc n) a b h = go (front-view a) (read-append n (laterTables a) b)
         rw (table-front (table-append a b t), first-append a b t, later-append a b t, table-front t, less, r whole)
     go (inr (inr k)) r = absurd (k .broken (rw (k .is) at h))
 
+-- the row count, and what is to be read after it, hang on the first four bytes alone
+pub same-count : (s rest : Bytes) → 4 ≤ length s → bytesToRead (take 4 s ++ rest) ≡ bytesToRead s
+same-count s rest h =
+    let long : 4 ≤ length (take 4 s) = rw (length-take-le 4 s h) (le-refl 4) in
+    let same : word (take 4 s ++ rest) ≡ word s = word-append (take 4 s) rest long ∙ sym (word-append (take 4 s) (drop 4 s) long) ∙ ap word (take-append-drop 4 s) in
+    rw same
+
 -- ---- where fewer tables may be read
 
 -- a reading that ends before so many tables, or whole after them, does not notice
@@ -206,6 +213,24 @@ unfolding readWithin
 read-tables zero n s l h = none-left (readWithin n s .tables) h
 read-tables (suc m) zero s l h = absurd (omega arith)
 read-tables (suc m) (suc n) s l h = same-tables (firstTable s) m _ _ (openFront s) h (read-tables m n (laterTables s) (omega arith))
+
+-- where it would have ended otherwise than whole it ends as count: a byte follows the last table that may be read
+pub read-full : (m n : ℕ) (s : Bytes) → m ≤ n → length (readWithin n s .tables) ≡ m → ¬ (readWithin n s .ending ≡ Whole) → readWithin m s .ending ≡ Count
+unfolding readWithin
+read-full zero n s l e broken =
+    by-cases (decLt 0 (length s)) (λ some. rw (ne-eqb (length s) 0 (λ q. omega arith)))
+    (λ none. absurd (broken (rw (empty s (omega arith), read-nothing n))))
+read-full (suc m) zero s l e broken = absurd (omega arith)
+read-full (suc m) (suc n) s l e broken = go (front-view s) (read-full m n (laterTables s) (omega arith))
+  where
+    go : (length s ≡ 0) ⊎ (IsTable s ⊎ IsBroken s)
+        → (length (readWithin n (laterTables s) .tables) ≡ m → ¬ (readWithin n (laterTables s) .ending ≡ Whole) → readWithin m (laterTables s) .ending ≡ Count)
+        → readWithin (suc m) s .ending ≡ Count
+    go (inl q) r = absurd (omega (arith, rw (empty s q) at e))
+    go (inr (inl t)) r =
+        let same : length (readWithin n (laterTables s) .tables) ≡ m = omega (arith, rw (table-front t) at e) in
+        rw (table-front t) (r same (λ w. broken (rw (table-front t) w)))
+    go (inr (inr k)) r = absurd (omega (arith, rw (k .is) at e))
 
 -- ---- the table at the front, by itself
 

@@ -1,8 +1,9 @@
 -- A stream of tables, and how its reading ends. What stands in quotation marks is document 02's, Change 1.
 -- Assumes nothing.
 use mathlib.Core.Bool.{cond}
-use mathlib.Core.List.{List, [], _∷_}
-use Prim.Native.Nat.{ℕ, zero, suc, _+_, _*_}
+use mathlib.Core.Path.{_≡_}
+use mathlib.Core.List.{List, [], _∷_, _++_}
+use Prim.Native.Nat.{ℕ, zero, suc, _+_, _*_, _/_, _%_, _≤_}
 use lib.ListN.{length, take, drop}
 use lib.Dec.{eqb, ltb}
 use Rattle.columns.specs.Column.{Bytes}
@@ -14,7 +15,7 @@ use Rattle.streams.specs.declared.Front.the-variants.{Table, Ends}
 
 -- ---- "tables, each led by its row count in four bytes, low byte first"
 
--- the bytes of the table at the front
+-- how many bytes the table at the front has
 abbrev pub tableBytes : Bytes → ℕ
 tableBytes s = word s * 32
 
@@ -25,6 +26,10 @@ firstTable s = take (tableBytes s) (drop 4 s)
 -- what comes after it
 abbrev pub laterTables : Bytes → Bytes
 laterTables s = drop (4 + tableBytes s) s
+
+-- how many bytes more a reading wants after the row count: none where there are too many rows
+abbrev pub bytesToRead : Bytes → ℕ
+bytesToRead s = cond (ltb 1024 (word s)) 0 (tableBytes s)
 
 -- ---- what stands at the front of the bytes that are left
 
@@ -50,8 +55,9 @@ pub record Stream : Type 0 where
   pub tables : List Bytes
   pub ending : Ending
 
-abbrev pub ended : Ending → Stream
-ended e = record { tables = []; ending = e }
+-- no table more, and such an end
+abbrev pub endsAs : Ending → Stream
+endsAs e = record { tables = []; ending = e }
 
 abbrev pub led : Bytes → Stream → Stream
 led t s = record { tables = t ∷ s .tables; ending = s .ending }
@@ -59,11 +65,11 @@ led t s = record { tables = t ∷ s .tables; ending = s .ending }
 -- the table and then the later ones, or the end
 abbrev pub goOn : Front → Bytes → Stream → Stream
 goOn Table t later = led t later
-goOn (Ends e) t later = ended e
+goOn (Ends e) t later = endsAs e
 
 -- what is read of s where so many tables may be. "A table that is not read whole is not counted at all."
 unfoldable pub readWithin : ℕ → Bytes → Stream
-readWithin zero s = ended (fullEnding s)
+readWithin zero s = endsAs (fullEnding s)
 readWithin (suc left) s = let later = readWithin left (laterTables s) in goOn (openFront s) (firstTable s) later
 
 abbrev pub mostTables : ℕ
@@ -72,3 +78,19 @@ mostTables = 1000000
 -- the stream that these bytes are, after the profile
 unfoldable pub streamOf : Bytes → Stream
 streamOf s = readWithin mostTables s
+
+-- ---- a stream that is written
+
+-- a number below 4,294,967,296 in four bytes, low byte first
+abbrev pub fourBytes : ℕ → Bytes
+fourBytes n = n % 256 ∷ n / 256 % 256 ∷ n / 65536 % 256 ∷ n / 16777216 % 256 ∷ []
+
+-- tables, each led by its row count
+unfoldable pub written : List Bytes → Bytes
+written [] = []
+written (t ∷ ts) = fourBytes (length t / 32) ++ t ++ written ts
+
+-- a table of whole rows, at most 1,024 of them
+pub record IsWritable (t : Bytes) : Type 0 where
+  pub whole : length t ≡ length t / 32 * 32
+  pub few : length t / 32 ≤ 1024

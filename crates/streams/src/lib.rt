@@ -1,9 +1,9 @@
 // A stream of tables: what stands at the front of the bytes that are left of it.
 use words::word;
 ghost use mathlib.Core.Path.{_≡_};
-ghost use Prim.Native.Nat.{_*_, _≤_};
+ghost use Prim.Native.Nat.{_≤_};
 ghost use Rattle.words.specs.Words.{word as Words·word};
-ghost use Rattle.streams.specs.Stream.{openFront, fullEnding, frontOf};
+ghost use Rattle.streams.specs.Stream.{openFront, fullEnding, frontOf, bytesToRead};
 
 // The most tables that are read, and the most rows of each.
 pub const MOST_TABLES: u64 = 1000000;
@@ -31,6 +31,18 @@ pub fn row_count(s: &[u8]) -> usize
     ensures { λ r. ⌜ r ≡ Words·word (now (s .entry)) ⌝ }
 {
     word(s) as usize
+}
+
+// How many bytes are to be read after a row count: those of its table, and none where there are too many rows.
+pub fn bytes_to_read(count: &[u8]) -> usize
+    ensures { λ r. ⌜ r ≡ bytesToRead (now (count .entry)) ⌝ }
+    ensures few { λ r. ⌜ r ≤ 32768 ⌝ }
+{
+    let rows = row_count(count);
+    if MOST_ROWS < rows {
+        return 0;
+    }
+    rows * 32
 }
 
 // Where no table more may be read.

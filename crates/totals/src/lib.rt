@@ -1,4 +1,4 @@
-// The month of a stream of tables, of which the bytes come bit by bit.
+// The month of a stream of tables, which is read piece by piece.
 use figures::Figures;
 use streams::COUNT_BYTES;
 use streams::Ending;
@@ -8,16 +8,17 @@ use words::from;
 use words::front;
 use world::row;
 ghost use mathlib.Core.Path.{_≡_};
-ghost use mathlib.Core.List.{[]};
+ghost use mathlib.Core.List.{[], _∷_};
 ghost use Prim.Native.Nat.{_≤_};
 ghost use Rattle.columns.specs.Column.{Bytes};
 ghost use Rattle.world.specs.Rows.{rows};
+ghost use Rattle.figures.specs.Figures.{figuresOf, added};
 ghost use Rattle.figures.specs.Room.{Room};
-ghost use Rattle.totals.specs.Month.{monthOf, Counts, Open, GoesOn};
+ghost use Rattle.totals.specs.Month.{monthOf, IsOpen, GoesOn};
 
 pub struct Month {
     pub figures: Figures,
-    pub ended: Ending,
+    pub ending: Ending,
 }
 
 // The month of no bytes.
@@ -31,14 +32,14 @@ pub fn start() -> Month
             rounds: [0; 17],
             levels: [0; 16],
         },
-        ended: Ending::Whole,
+        ending: Ending::Whole,
     }
 }
 
 // The figures with a table more, which is settled or refused.
 fn with_table(figures: Figures, profile: &[u8], table: &[u8]) -> Figures
     requires { ⌜ Room figures × (rows (now table) ≤ 1024) ⌝ }
-    ensures { λ r. ⌜ Counts (now (profile .entry)) figures (now (table .entry)) r ⌝ }
+    ensures { λ r. ⌜ r ≡ added figures (figuresOf (now (profile .entry)) (now (table .entry) ∷ [])) ⌝ }
 {
     let settled = initial::settle(profile, table);
     let answer = settled.answer;
@@ -52,7 +53,7 @@ fn with_table(figures: Figures, profile: &[u8], table: &[u8]) -> Figures
 
 // The month with these bytes more, of any number of tables.
 pub fn read(month: Month, profile: &[u8], bytes: &[u8]) -> Month
-    requires { ⌜ Open (now profile) month ⌝ }
+    requires { ⌜ IsOpen (now profile) month ⌝ }
     ensures { λ r. ⌜ GoesOn (now (profile .entry)) month (now (bytes .entry)) r ⌝ }
 {
     let mut figures = month.figures;
@@ -60,8 +61,8 @@ pub fn read(month: Month, profile: &[u8], bytes: &[u8]) -> Month
     loop {
         let rest = from(bytes, at);
         let left = MOST_TABLES - (figures.tables + figures.refused);
-        if let Front::Ends(ended) = streams::front_of(left, rest) {
-            return Month { figures, ended };
+        if let Front::Ends(ending) = streams::front_of(left, rest) {
+            return Month { figures, ending };
         }
         let n = streams::row_count(rest) * row::WIDTH;
         figures = with_table(figures, profile, front(from(rest, COUNT_BYTES), n));

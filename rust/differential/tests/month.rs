@@ -304,7 +304,7 @@ mod compared {
 
     #[test]
     fn progress_is_told_on_standard_error() {
-        for (tables, told) in [(9_999, ""), (25_000, "month: 10000 tables\nmonth: 20000 tables\n")] {
+        for (tables, told) in [(9_999, ""), (25_000, "month: 10000 tables read\nmonth: 20000 tables read\n")] {
             let stream = many(tables, &[]);
             let written = run(&program(), &stream).expect("the program runs");
             assert_same(&written.output, &expected(&stream), &stream);

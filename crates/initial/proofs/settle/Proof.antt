@@ -2,9 +2,10 @@
 use mathlib.Core.Path.{_≡_, sym, ap, _∙_}
 use Prim.Native.Nat.{_*_, _≤_}
 use native.Mathlib.Omega.{arith}
-use lib.Seq.{take-at}
 use borrow.Author.Needs.{needs}
-use Rattle.world.specs.Rows.{rows}
+use Rattle.refusals.specs.Check.{checkInput}
+use Rattle.electrical.specs.Answer.{settled}
+use Rattle.updates.specs.State.{freshDevices}
 use Rattle.initial.proofs.Lending.{lent, given-back, fresh-check}
 use Rattle.initial.proofs.settle.Statement.{statement}
 use Rattle.initial.proofs.settle.Tie as tie
@@ -55,17 +56,19 @@ returns c =
     let r = f .before .before .before .before .before in
     let a = r .before .before .before .args in
     let n = r .rows .result in
-    let column = lent n 1024 (few r) ∙ r .rows .ensures in
+    let size = lent n 1024 (few r) in
+    let column = size ∙ r .rows .ensures in
     let whole = fresh-check (a .profile .now) (a .table .now) _ _ _ _ (lent (n * 16) 16384 (omega (arith, few r)) ∙ ap (λ k. k * 16) (r .rows .ensures)) column column column in
+    let check = checkInput (a .profile .now) (a .table .now) in
+    let s = settled (a .profile .now) (a .table .now) (freshDevices (a .table .now)) in
     let columns = f .fresh .ensures .columns in
     let last = f .fresh .last .1 .1 .1 in
     let kept = f .fresh .kept .1 .1 .1 in
     record {
       answer = rw whole at (f .fresh .ensures .answer);
-      sized = (given-back n 1024 (last .0) (kept .0), given-back n 1024 (last .1 .0) (kept .1 .0), given-back n 1024 (last .1 .1 .0) (kept .1 .1 .0));
-      signals = λ h. take-at (last .0) _ (rows (a .table .now)) (kept .0 ∙ column) ∙ (rw (whole, h) at (columns .signals));
-      weaks = λ h. take-at (last .1 .0) _ (rows (a .table .now)) (kept .1 .0 ∙ column) ∙ (rw (whole, h) at (columns .weaks));
-      strongs = λ h. take-at (last .1 .1 .0) _ (rows (a .table .now)) (kept .1 .1 .0 ∙ column) ∙ (rw (whole, h) at (columns .strongs));
+      signals = given-back n check (s .signal) (last .0) (kept .0 ∙ size) (rw whole at (columns .signals));
+      weaks = given-back n check (s .weak) (last .1 .0) (kept .1 .0 ∙ size) (rw whole at (columns .weaks));
+      strongs = given-back n check (s .strong) (last .1 .1 .0) (kept .1 .1 .0 ∙ size) (rw whole at (columns .strongs));
     }
 
 pub settle-spec : {M : Type 1} → statement M

@@ -6,17 +6,16 @@ use native.Mathlib.Omega.{arith}
 use lib.ListN.{length, take}
 use lib.Seq.{length-take-le}
 use borrow.Author.Needs.{needs}
-use Rattle.totals.specs.Month.{Open}
+use Rattle.totals.specs.Month.{IsMonth, IsOpen}
 use Rattle.totals.proofs.Reading.{open-start}
-use Rattle.month.specs.Input.{Counted}
 use Rattle.month.proofs.count.Statement.{statement}
 use Rattle.month.proofs.count.Tie as tie
 
 abbrev Inv-loop : tie.InvT-loop
-Inv-loop profile buf₀ month₀ tables₀ buf month tables = (length buf ≡ length buf₀) × (tables ≤ 1000001) × Open profile month
+Inv-loop profile buf₀ month₀ tables₀ buf month tables = (length buf ≡ length buf₀) × (tables ≤ 1000000) × IsOpen profile month
 
 abbrev μ-loop : tie.MeasureT-loop
-μ-loop profile buf₀ month₀ tables₀ buf month tables = 1000001 - tables
+μ-loop profile buf₀ month₀ tables₀ buf month tables = 1000000 - tables
 
 start-requires : tie.Need-start-requires Inv-loop μ-loop
 start-requires c κs = search needs
@@ -31,7 +30,7 @@ slice-reshare-prefix-read : tie.Need-slice-reshare-prefix-read Inv-loop μ-loop
 slice-reshare-prefix-read c = search needs
 
 slice-aggregate-read : tie.Need-slice-aggregate-read Inv-loop μ-loop
-slice-aggregate-read c = sym (length-take-le _ _ (c .before .before .before .read-table .ensures))
+slice-aggregate-read c = sym (length-take-le _ _ (c .before .before .before .read-table .ensures .within))
 
 abbrev loop-of : tie.After-read-arg Inv-loop μ-loop → tie.At-loop Inv-loop μ-loop
 loop-of c = c .before .before .before .before .before .before
@@ -40,8 +39,8 @@ read-requires : tie.Need-read-requires Inv-loop μ-loop
 read-requires c κs = loop-of c .loop .inv .2
 
 -- the month of what was read before, and now
-counted : (c : tie.After-read Inv-loop μ-loop) → let s = loop-of (c .before) .before .before .before .before in Counted (s .args .profile .now) (c .read .result)
-counted c = let o = loop-of (c .before) .loop .inv .2 in record { input = _; is = c .read .ensures .is (o .input) (o .is) }
+counted : (c : tie.After-read Inv-loop μ-loop) → let s = loop-of (c .before) .before .before .before .before in IsMonth (s .args .profile .now) (c .read .result)
+counted c = let o = loop-of (c .before) .loop .inv .2 .month in record { stream = _; is = c .read .ensures .is (o .stream) (o .is) }
 
 enum-told : tie.Need-enum-told Inv-loop μ-loop
 enum-told c = search needs
@@ -71,14 +70,29 @@ loop-again : tie.Need-loop-again Inv-loop μ-loop
 loop-again c =
     let told = c .before .before in
     let read = told .before .before in
-    let k = counted read in
-    (read .before .before .before .before .read-table .kept .0 ∙ loop-of (read .before) .loop .inv .0, omega arith, record { input = k .input; is = k .is; whole = told .enum-told .given .1 })
+    (read .before .before .before .before .read-table .kept .0 ∙ loop-of (read .before) .loop .inv .0, omega arith, record { month = counted read; whole = told .enum-told .given .1 })
+
+read-byte-requires : tie.Need-read-byte-requires Inv-loop μ-loop
+read-byte-requires c κs = search needs
+
+slice-reshare-prefix-read-2 : tie.Need-slice-reshare-prefix-read-2 Inv-loop μ-loop
+slice-reshare-prefix-read-2 c = search needs
+
+slice-aggregate-read-2 : tie.Need-slice-aggregate-read-2 Inv-loop μ-loop
+slice-aggregate-read-2 c = sym (length-take-le _ _ (c .before .before .before .read-byte .ensures))
+
+-- where all tables that may be read were read
+abbrev last-loop : tie.After-read-arg2 Inv-loop μ-loop → tie.At-loop Inv-loop μ-loop
+last-loop c = c .before .before .before .before .before .before
+
+read-requires-2 : tie.Need-read-requires-2 Inv-loop μ-loop
+read-requires-2 c κs = last-loop c .loop .inv .2
 
 same-length-3 : tie.Need-same-length-3 Inv-loop μ-loop
 same-length-3 c = search needs
 
 returns-3 : tie.Need-returns-3 Inv-loop μ-loop
-returns-3 c = let o = c .before .loop .inv .2 in record { input = o .input; is = o .is }
+returns-3 c = let o = last-loop (c .before) .loop .inv .2 .month in record { stream = _; is = c .read2 .ensures .is (o .stream) (o .is) }
 
 pub count-spec : {M : Type 1} → statement M
 count-spec =
@@ -101,5 +115,9 @@ count-spec =
     progress-requires
     loop-less
     loop-again
+    read-byte-requires
+    slice-reshare-prefix-read-2
+    slice-aggregate-read-2
+    read-requires-2
     same-length-3
     returns-3)

@@ -9,11 +9,11 @@ use Rattle.month.proofs.report.Tie as tie
 buffer-requires : tie.Need-buffer-requires
 buffer-requires c κs = search needs
 
-slice-aggregate-output : tie.Need-slice-aggregate-output
-slice-aggregate-output c = search needs
+slice-aggregate-text-of : tie.Need-slice-aggregate-text-of
+slice-aggregate-text-of c = search needs
 
-output-requires : tie.Need-output-requires
-output-requires c κs = search needs
+text-of-requires : tie.Need-text-of-requires
+text-of-requires c κs = search needs
 
 array-share-prefix-out : tie.Need-array-share-prefix-out
 array-share-prefix-out c = search needs
@@ -41,8 +41,8 @@ report-spec =
     tie.close
     (tie.spec
     buffer-requires
-    slice-aggregate-output
-    output-requires
+    slice-aggregate-text-of
+    text-of-requires
     array-share-prefix-out
     slice-aggregate-write-all
     write-all-requires

@@ -2,11 +2,13 @@
 use mathlib.Core.Path.{_≡_, sym, ap, _∙_}
 use Prim.Native.Nat.{ℕ, _≤_}
 use native.Mathlib.Omega.{arith}
-use lib.ListN.{take}
+use lib.ListN.{length, take}
 use lib.Seq.{length-take-le}
 use borrow.Author.Needs.{needs}
 use Rattle.columns.specs.Column.{Bytes}
 use Rattle.world.specs.Rows.{rows}
+use Rattle.refusals.proofs.Tells.{accepted-told}
+use Rattle.initial.proofs.Answers.{fresh-tells, fresh-sized}
 use Rattle.report.specs.Text.{runText}
 use Rattle.report.proofs.Run.{run-few}
 use Rattle.report.proofs.settled.Statement.{statement}
@@ -28,27 +30,31 @@ rows-requires c κs = search needs
 abbrev made : tie.After-rows → tie.After-settle
 made c = c .before .before .before .before
 
+-- the columns have room for every table
+sized : (c : tie.After-rows) → let r = made c .settle .result in (length (r .signal) ≡ 1024) × (length (r .weak) ≡ 1024) × (length (r .strong) ≡ 1024)
+sized c = fresh-sized (made c .settle .ensures) (rows-few (start (made c .before)))
+
 -- a column has an entry for each row
 fits : (c : tie.After-rows) (room : ℕ) → room ≡ 1024 → c .rows .result ≤ room
 fits c room e = rw (e, c .rows .ensures) (rows-few (start (made c .before)))
 
 array-share-prefix-signal : tie.Need-array-share-prefix-signal
-array-share-prefix-signal c = let r = c .before in fits r _ (made r .settle .ensures .sized .0)
+array-share-prefix-signal c = let r = c .before in fits r _ (sized r .0)
 
 slice-aggregate-settled : tie.Need-slice-aggregate-settled
-slice-aggregate-settled c = let r = c .before .before in sym (length-take-le _ _ (fits r _ (made r .settle .ensures .sized .0)))
+slice-aggregate-settled c = let r = c .before .before in sym (length-take-le _ _ (fits r _ (sized r .0)))
 
 array-share-prefix-weak : tie.Need-array-share-prefix-weak
-array-share-prefix-weak c = let r = c .before .before in fits r _ (made r .settle .ensures .sized .1)
+array-share-prefix-weak c = let r = c .before .before in fits r _ (sized r .1)
 
 slice-aggregate-settled-2 : tie.Need-slice-aggregate-settled-2
-slice-aggregate-settled-2 c = let r = c .before .before .before in sym (length-take-le _ _ (fits r _ (made r .settle .ensures .sized .1)))
+slice-aggregate-settled-2 c = let r = c .before .before .before in sym (length-take-le _ _ (fits r _ (sized r .1)))
 
 array-share-prefix-strong : tie.Need-array-share-prefix-strong
-array-share-prefix-strong c = let r = c .before .before .before in fits r _ (made r .settle .ensures .sized .2)
+array-share-prefix-strong c = let r = c .before .before .before in fits r _ (sized r .2)
 
 slice-aggregate-settled-3 : tie.Need-slice-aggregate-settled-3
-slice-aggregate-settled-3 c = let r = c .before .before .before .before in sym (length-take-le _ _ (fits r _ (made r .settle .ensures .sized .2)))
+slice-aggregate-settled-3 c = let r = c .before .before .before .before in sym (length-take-le _ _ (fits r _ (sized r .2)))
 
 settled-requires : tie.Need-settled-requires
 settled-requires c κs =
@@ -62,14 +68,13 @@ unfolding runText
 returns c =
     let put = c .before .before in
     let r = put .before .before .before .before .before in
-    let s = made r .settle .ensures in
-    let accepted = start (made r .before) .pre .0 in
+    let told = fresh-tells (made r .settle .ensures) in
+    let s = told .done (accepted-told told (start (made r .before) .pre .0)) in
     let first : (column : Bytes) → take (r .rows .result) column ≡ take (rows (start (made r .before) .args .table .now)) column = λ column. ap (λ n. take n column) (r .rows .ensures) in
-    let signal = first _ ∙ s .signals accepted in
-    let weak = first _ ∙ s .weaks accepted in
-    let strong = first _ ∙ s .strongs accepted in
-    let rounds = rw accepted at (s .answer) in
-    rw (← rounds, ← signal, ← weak, ← strong) (put .settled .ensures)
+    let signal = first _ ∙ s .signals in
+    let weak = first _ ∙ s .weaks in
+    let strong = first _ ∙ s .strongs in
+    rw (← s .rounds, ← signal, ← weak, ← strong) (put .settled .ensures)
 
 pub settled-spec : {M : Type 1} → statement M
 settled-spec =

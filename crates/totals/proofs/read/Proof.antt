@@ -29,8 +29,8 @@ abbrev start : tie.At-loop Inv-loop μ-loop → tie.Start Inv-loop μ-loop
 start c = c .before .before .before .before
 
 -- what the caller's month is the month of, and these bytes up to here
-here : (c : tie.At-loop Inv-loop μ-loop) → let s = start c in Reading (s .args .profile .now) (s .pre .input ++ take (c .loop .at) (s .args .bytes .now)) (c .loop .figures)
-here c = let s = start c in c .loop .inv .is (s .pre .input) (month-reading (s .pre .is) (s .pre .whole))
+here : (c : tie.At-loop Inv-loop μ-loop) → let s = start c in Reading (s .args .profile .now) (s .pre .month .stream ++ take (c .loop .at) (s .args .bytes .now)) (c .loop .figures)
+here c = let s = start c in c .loop .inv .is (s .pre .month .stream) (month-reading (s .pre .month .is) (s .pre .whole))
 
 add-left : tie.Need-add-left Inv-loop μ-loop
 add-left c = record { fits = omega (arith, reading-few (here (c .before .before))) }
@@ -50,15 +50,15 @@ fronted : (k : tie.After-front-of Inv-loop μ-loop) → let l = k .before .befor
     k .front-of .result ≡ frontOf (1000000 - (f .tables + f .refused)) (rest l)
 fronted k = rw (← k .before .before .from .ensures) (k .front-of .ensures)
 
-enum-known-ended : tie.Need-enum-known-ended Inv-loop μ-loop
-enum-known-ended c = search needs
+enum-known-ending : tie.Need-enum-known-ending Inv-loop μ-loop
+enum-known-ending c = search needs
 
 returns : tie.Need-returns Inv-loop μ-loop
 returns c =
     let k = c .before .before .before in
     let l = k .before .before .before in
     let f = l .loop .figures in
-    let ends = front-ends (1000000 - (f .tables + f .refused)) (rest l) _ (sym (fronted k) ∙ c .before .ended .given .1) in
+    let ends = front-ends (1000000 - (f .tables + f .refused)) (rest l) _ (sym (fronted k) ∙ c .before .ending .given .1) in
     record { is = λ s e. so-far-ends (l .loop .inv) _ ends s (month-reading e (start l .pre .whole)) }
 
 enum-told : tie.Need-enum-told Inv-loop μ-loop
@@ -123,7 +123,7 @@ read-spec =
     add-left
     sub-left
     front-of-requires
-    enum-known-ended
+    enum-known-ending
     returns
     enum-told
     row-count-requires
