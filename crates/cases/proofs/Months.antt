@@ -1,14 +1,22 @@
 -- The month of a small stream, computed: what the program `month` writes for a whole input.
 -- Assumes nothing.
-use mathlib.Core.Bool.{_&&_}
+use mathlib.Core.Path.{_≡_, sym, _∙_}
+use mathlib.Core.Bool.{Bool, false, _&&_}
 use mathlib.Core.List.{[], _∷_, _++_}
+use Prim.Native.Nat.{_-_, _≤_}
+use lib.ListN.{length, drop}
 use lib.Dec.{T}
 use Rattle.columns.specs.Column.{Bytes, same}
 use Rattle.columns.specs.Ascii.{ascii}
 use Rattle.blocks.specs.Kind.{Solid}
 use Rattle.blocks.specs.Profile.{benchProfile}
-use Rattle.streams.specs.Stream.{written}
+use Rattle.layout.specs.Good.{goodProfile}
+use Rattle.refusals.specs.Check.{checkInput}
+use Rattle.report.specs.Text.{profileOf, tableOf, settleText}
+use Rattle.report.proofs.Run.{run-refused, whole-text}
+use Rattle.streams.specs.Stream.{asStream}
 use Rattle.month_lines.specs.Lines.{outputOf}
+use Rattle.month_lines.proofs.Output.{output-refused}
 use Rattle.cases.proofs.Computing.{computing}
 use Rattle.cases.proofs.Build.{block}
 use Rattle.cases.proofs.Cases.{line}
@@ -17,10 +25,10 @@ use Rattle.cases.proofs.Cases.{line}
 bad : Bytes
 bad = block Solid 0 0 0 ++ block 13 1 0 0
 
--- a table without rows, test 3's, a refused one between them, and two bytes of a row count
+-- test 3's table, a refused one, one without rows, and two bytes of a row count
 input : Bytes
 unfolding computing line bad
-input = benchProfile ++ written (line ∷ bad ∷ [] ∷ []) ++ 0 ∷ 0 ∷ []
+input = benchProfile ++ asStream (line ∷ bad ∷ [] ∷ []) ++ 0 ∷ 0 ∷ []
 
 expected : Bytes
 expected =
@@ -29,6 +37,29 @@ expected =
     ++ ascii "level_0=0\nlevel_1=0\nlevel_2=0\nlevel_3=0\nlevel_4=0\nlevel_5=0\nlevel_6=0\nlevel_7=0\nlevel_8=0\nlevel_9=0\nlevel_10=0\nlevel_11=0\n"
     ++ ascii "level_12=0\nlevel_13=0\nlevel_14=1\nlevel_15=1\nended=cut\n"
 
-claim : T (same (outputOf input) expected && same (outputOf (1 ∷ [])) (ascii "refusal=1\nplace=0\n"))
-unfolding computing input expected
+-- the last line of an output
+ends : Bytes → Bytes → Bool
+unfolding computing
+ends line output = same (drop (length output - length line) output) line
+
+-- an output that ends as it is to
+endings : Bool
+unfolding computing ends
+endings =
+    -- a row count of 1,025, and one of 1,024 with no rows after it
+    ends (ascii "ended=count\n") (outputOf (benchProfile ++ 1 ∷ 4 ∷ 0 ∷ 0 ∷ []))
+    && ends (ascii "ended=cut\n") (outputOf (benchProfile ++ 0 ∷ 4 ∷ 0 ∷ 0 ∷ []))
+    -- the profile alone
+    && ends (ascii "ended=whole\n") (outputOf benchProfile)
+    -- a byte, and a profile that is bad with a table after it
+    && same (outputOf (1 ∷ [])) (ascii "refusal=1\nplace=0\n")
+    && same (outputOf (1 ∷ benchProfile ++ 0 ∷ 0 ∷ 0 ∷ 0 ∷ [])) (ascii "refusal=1\nplace=0\n")
+
+claim : T (same (outputOf input) expected && endings)
+unfolding computing input expected endings
 claim = tt
+
+-- "as in `settle`": a bad profile has the text that `settle` has for it, whatever follows within what `settle` takes
+pub as-settle : (i : Bytes) → length i ≤ 32781 → goodProfile (profileOf i) ≡ false → outputOf i ≡ settleText i
+unfolding checkInput
+as-settle i l h = output-refused i h ∙ sym (whole-text i l ∙ rw (run-refused (profileOf i) (tableOf i) {n = 1} {i = 0} (rw h)))

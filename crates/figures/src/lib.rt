@@ -9,6 +9,7 @@ ghost use Rattle.figures.specs.Figures.{withRounds, withSettled, withRef
 ghost use Rattle.figures.specs.Room.{Room, Capped};
 
 pub struct Figures {
+    // Those settled.
     pub tables: u64,
     pub refused: u64,
     // Entry k counts the tables that settle in k + 1 rounds.

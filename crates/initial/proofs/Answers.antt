@@ -19,9 +19,9 @@ use Rattle.initial.proofs.Lending.{column-front, column-sized}
 
 module _ {p t : Bytes} {r : Initial} (s : SettlesFresh p t r) where
   -- a refused table leaves nothing to be read
-  pub fresh-tells : Tells ofInput (checkInput p t) (r .answer)
+  pub initial-tells : Tells ofInput (checkInput p t) (r .answer)
       (SettledTo p t (freshDevices t) (take (rows t) (r .signal)) (take (rows t) (r .weak)) (take (rows t) (r .strong)) (r .answer)) (Unit {0})
-  fresh-tells =
+  initial-tells =
       let range = rounds-range p t (freshDevices t) in
       tells refl (input-gives p t) (λ _. omega (arith, range)) (s .answer)
       (λ a is.
@@ -36,8 +36,8 @@ module _ {p t : Bytes} {r : Initial} (s : SettlesFresh p t r) where
       (λ n i f. tt)
 
   -- the columns have 1,024 entries, as their type says
-  pub fresh-sized : rows t ≤ 1024 → (length (r .signal) ≡ 1024) × (length (r .weak) ≡ 1024) × (length (r .strong) ≡ 1024)
-  fresh-sized few =
+  pub initial-sized : rows t ≤ 1024 → (length (r .signal) ≡ 1024) × (length (r .weak) ≡ 1024) × (length (r .strong) ≡ 1024)
+  initial-sized few =
       let n = settled p t (freshDevices t) in
       let long = settled-sized p t (freshDevices t) in (
         ap length (s .signals) ∙ column-sized (checkInput p t) (n .signal) (rw (long .signal) few),

@@ -23,11 +23,11 @@ fn say(sentence: &[u8]) {
     io::write_all(STDERR_FILENO, sentence);
 }
 
-fn progress(tables: u64) {
-    if tables % PROGRESS == 0 {
+fn progress(tables_read: u64) {
+    if tables_read % PROGRESS == 0 {
         let mut line = io::buffer();
         let number = text::bytes(&mut line, 0, b"month: ");
-        let last = text::number(&mut line, number, tables, b' ');
+        let last = text::number(&mut line, number, tables_read, b' ');
         let n = text::bytes(&mut line, last, b"tables read\n");
         say(&line[..n]);
     }
@@ -61,8 +61,8 @@ fn count(profile: &[u8], buf: &mut [u8]) -> Month
     ensures { λ r. ⌜ IsMonth (now (profile .entry)) r ⌝ }
 {
     let mut month = totals::start();
-    let mut tables = 0;
-    while tables < MOST_TABLES {
+    let mut tables_read = 0;
+    while tables_read < MOST_TABLES {
         let n = read_table(buf);
         let next = totals::read(month, profile, &buf[..n]);
         let ending = next.ending;
@@ -73,8 +73,8 @@ fn count(profile: &[u8], buf: &mut [u8]) -> Month
             return next;
         }
         month = next;
-        tables += 1;
-        progress(tables);
+        tables_read += 1;
+        progress(tables_read);
     }
     let n = read_byte(buf);
     totals::read(month, profile, &buf[..n])

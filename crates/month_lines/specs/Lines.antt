@@ -48,6 +48,6 @@ profileOf input = take 13 input
 abbrev pub afterProfile : Bytes → Bytes
 afterProfile input = drop 13 input
 
--- what the program writes for its whole input
+-- what the program is to write for its whole input
 unfoldable pub outputOf : Bytes → Bytes
 outputOf input = textOf (profileOf input) (monthOf (profileOf input) (afterProfile input))

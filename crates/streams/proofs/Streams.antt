@@ -26,11 +26,17 @@ pub record IsTable (s : Bytes) : Type 0 where
   pub few : word s ≤ 1024
   pub there : 4 + tableBytes s ≤ length s
 
+-- a row count above 1,024 stands at the front
+pub record IsMany (s : Bytes) : Type 0 where
+  pub counted : 4 ≤ length s
+  pub many : 1024 < word s
+
 -- the end of a reading that is not whole
 pub record IsBroken (s : Bytes) : Type 0 where
   pub ending : Ending
   pub is : openFront s ≡ Ends ending
   pub broken : ¬ (ending ≡ Whole)
+  pub many : ending ≡ Count → IsMany s
 
 pub table-front : {s : Bytes} → IsTable s → openFront s ≡ Table
 table-front {s} t =
@@ -43,6 +49,9 @@ empty (x ∷ xs) h = absurd (omega arith)
 cut-is-broken : ¬ (_≡_ {A = Ending} Cut Whole)
 cut-is-broken e = let z : _≡_ {A = ℕ} 0 1 = cc in omega arith
 
+cut-is-no-count : ¬ (_≡_ {A = Ending} Cut Count)
+cut-is-no-count e = let z : _≡_ {A = ℕ} 0 1 = cc in omega arith
+
 count-is-broken : ¬ (_≡_ {A = Ending} Count Whole)
 count-is-broken e = let z : _≡_ {A = ℕ} 0 1 = cc in omega arith
 
@@ -53,15 +62,15 @@ front-view s =
     (λ some.
     let nonempty = ne-eqb (length s) 0 (λ e. omega arith) in
     by-cases (decLt (length s) 4)
-    (λ short. inr (inr (record { ending = Cut; is = rw (nonempty, lt-ltb (length s) 4 short); broken = cut-is-broken })))
+    (λ short. inr (inr (record { ending = Cut; is = rw (nonempty, lt-ltb (length s) 4 short); broken = cut-is-broken; many = λ e. absurd (cut-is-no-count e) })))
     (λ long.
     let counted = le-ltb (length s) 4 (omega arith) in
     by-cases (decLt 1024 (word s))
-    (λ many. inr (inr (record { ending = Count; is = rw (nonempty, counted, lt-ltb 1024 (word s) many); broken = count-is-broken })))
+    (λ many. inr (inr (record { ending = Count; is = rw (nonempty, counted, lt-ltb 1024 (word s) many); broken = count-is-broken; many = λ e. record { counted = omega arith; many = many } })))
     (λ few.
     let fine = le-ltb 1024 (word s) (omega arith) in
     by-cases (decLt (length s) (4 + tableBytes s))
-    (λ part. inr (inr (record { ending = Cut; is = rw (nonempty, counted, fine, lt-ltb (length s) (4 + tableBytes s) part); broken = cut-is-broken })))
+    (λ part. inr (inr (record { ending = Cut; is = rw (nonempty, counted, fine, lt-ltb (length s) (4 + tableBytes s) part); broken = cut-is-broken; many = λ e. absurd (cut-is-no-count e) })))
     (λ whole. inr (inl (record { counted = omega arith; few = omega arith; there = omega arith }))))))
     (λ none. inl (omega arith))
 
@@ -231,6 +240,35 @@ read-full (suc m) (suc n) s l e broken = go (front-view s) (read-full m n (later
         let same : length (readWithin n (laterTables s) .tables) ≡ m = omega (arith, rw (table-front t) at e) in
         rw (table-front t) (r same (λ w. broken (rw (table-front t) w)))
     go (inr (inr k)) r = absurd (omega (arith, rw (k .is) at e))
+
+-- ---- a reading that has stopped
+
+many-front : {s : Bytes} → IsMany s → openFront s ≡ Ends Count
+many-front {s} m = rw (ne-eqb (length s) 0 (λ e. omega (arith, m .counted)), le-ltb (length s) 4 (m .counted), lt-ltb 1024 (word s) (m .many))
+
+many-append : (a b : Bytes) → IsMany a → IsMany (a ++ b)
+many-append a b m =
+    record { counted = rw length-append (omega (arith, m .counted)); many = rw (word-append a b (m .counted)) (m .many) }
+
+-- whatever follows bytes at which the reading ends as count, nothing of it is read
+pub read-stops : (n : ℕ) (a b : Bytes) → readWithin n a .ending ≡ Count → readWithin n (a ++ b) ≡ readWithin n a
+unfolding readWithin
+read-stops zero a b h =
+    by-cases (decLt 0 (length a))
+    (λ some. rw (ne-eqb (length a) 0 (λ e. omega arith), ne-eqb (length (a ++ b)) 0 (λ e. omega (arith, length-append a b))))
+    (λ none. absurd (count-is-broken (sym (rw (empty a (omega arith)) at h))))
+read-stops (suc n) a b h = go (front-view a) (read-stops n (laterTables a) b)
+  where
+    go : (length a ≡ 0) ⊎ (IsTable a ⊎ IsBroken a) → (readWithin n (laterTables a) .ending ≡ Count → readWithin n (laterTables a ++ b) ≡ readWithin n (laterTables a))
+        → readWithin (suc n) (a ++ b) ≡ readWithin (suc n) a
+    go (inl e) r = absurd (count-is-broken (sym (rw (empty a e) at h)))
+    go (inr (inl t)) r =
+        let stopped : readWithin n (laterTables a) .ending ≡ Count = rw (table-front t) at h in
+        rw (table-front (table-append a b t), first-append a b t, later-append a b t, table-front t, r stopped)
+    go (inr (inr k)) r =
+        let ends : k .ending ≡ Count = rw (k .is) at h in
+        let m = k .many ends in
+        rw (many-front (many-append a b m), many-front m)
 
 -- ---- the table at the front, by itself
 

@@ -10,7 +10,7 @@ use Rattle.columns.specs.Column.{Bytes}
 use Rattle.columns.proofs.Members.{All}
 use Rattle.words.specs.Words.{word}
 use Rattle.streams.specs.declared.Ending.the-variants.{Whole}
-use Rattle.streams.specs.Stream.{tableBytes, firstTable, laterTables, led, readWithin, fourBytes, written, IsWritable}
+use Rattle.streams.specs.Stream.{tableBytes, firstTable, laterTables, led, readWithin, fourBytes, asStream, IsWritable}
 use Rattle.streams.proofs.Streams.{IsTable, read-table, read-nothing, joined, read-append}
 
 -- the table at the front, and what comes after it
@@ -36,16 +36,16 @@ module _ {t : Bytes} (w : IsWritable t) (rest : Bytes) where
   front-later = rw (front-word, ← drop-drop (length t / 32 * 32) 4 front) (drop-at t rest (length t / 32 * 32) (w .whole))
 
 -- tables that may be written are read, all of them and in their order
-pub read-written : (n : ℕ) (ts : List Bytes) → All IsWritable ts → length ts ≤ n → readWithin n (written ts) ≡ record { tables = ts; ending = Whole }
-unfolding written
+pub read-written : (n : ℕ) (ts : List Bytes) → All IsWritable ts → length ts ≤ n → readWithin n (asStream ts) ≡ record { tables = ts; ending = Whole }
+unfolding asStream
 read-written n [] w l = read-nothing n
 read-written zero (t ∷ ts) w l = absurd (omega arith)
 read-written (suc n) (t ∷ ts) w l =
-    rw (read-table n (front-table (w .0) (written ts)), front-first (w .0) (written ts), front-later (w .0) (written ts), read-written n ts (w .1) (omega arith))
+    rw (read-table n (front-table (w .0) (asStream ts)), front-first (w .0) (asStream ts), front-later (w .0) (asStream ts), read-written n ts (w .1) (omega arith))
 
 -- and so whatever follows them: it is read as by itself, where so many tables fewer may be
 pub read-after : (n : ℕ) (ts : List Bytes) (s : Bytes) → All IsWritable ts → length ts ≤ n
-    → readWithin n (written ts ++ s) ≡ joined ts (readWithin (n - length ts) s)
+    → readWithin n (asStream ts ++ s) ≡ joined ts (readWithin (n - length ts) s)
 read-after n ts s w l =
     let all = read-written n ts w l in
-    read-append n (written ts) s (ap (λ r. r .ending) all) ∙ ap (λ r. joined (r .tables) (readWithin (n - length (r .tables)) s)) all
+    read-append n (asStream ts) s (ap (λ r. r .ending) all) ∙ ap (λ r. joined (r .tables) (readWithin (n - length (r .tables)) s)) all

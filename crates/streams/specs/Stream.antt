@@ -86,9 +86,9 @@ abbrev pub fourBytes : ℕ → Bytes
 fourBytes n = n % 256 ∷ n / 256 % 256 ∷ n / 65536 % 256 ∷ n / 16777216 % 256 ∷ []
 
 -- tables, each led by its row count
-unfoldable pub written : List Bytes → Bytes
-written [] = []
-written (t ∷ ts) = fourBytes (length t / 32) ++ t ++ written ts
+unfoldable pub asStream : List Bytes → Bytes
+asStream [] = []
+asStream (t ∷ ts) = fourBytes (length t / 32) ++ t ++ asStream ts
 
 -- a table of whole rows, at most 1,024 of them
 pub record IsWritable (t : Bytes) : Type 0 where

@@ -1,4 +1,4 @@
--- A month may be cut into streams, counted apart and added up.
+-- A month may be divided into streams, counted apart and added up; and nothing is read after an end as count.
 -- Assumes nothing.
 use mathlib.Core.Path.{_≡_, ap, _∙_}
 use mathlib.Core.Logic.{_⊎_, inl, inr, ⊎-elim}
@@ -9,7 +9,7 @@ use lib.ListN.{length}
 use Rattle.columns.specs.Column.{Bytes}
 use Rattle.streams.specs.declared.Ending.the-variants.{Whole, Count}
 use Rattle.streams.specs.Stream.{mostTables, streamOf}
-use Rattle.streams.proofs.Streams.{read-append, Enough, read-enough, read-tables, read-full}
+use Rattle.streams.proofs.Streams.{read-append, Enough, read-enough, read-tables, read-full, read-stops}
 use Rattle.figures.specs.Figures.{added}
 use Rattle.figures.proofs.Sums.{tables-all, figures-append}
 use Rattle.totals.specs.Month.{monthOf, tablesRead}
@@ -46,3 +46,8 @@ module _ (p a b : Bytes) (whole : monthOf p a .ending ≡ Whole) where
       let left = mostTables - length (streamOf a .tables) in
       let all : length (streamOf b .tables) ≡ left = omega (arith, tables-all p (streamOf a .tables), tables-all p (streamOf b .tables), full) in
       ap (λ s. s .ending) (read-append mostTables a b whole) ∙ read-full left mostTables b (omega arith) all broken
+
+-- Whatever follows bytes at which the reading ends as count, the month is the same: it need not be read.
+pub month-stops : (p a b : Bytes) → monthOf p a .ending ≡ Count → monthOf p (a ++ b) ≡ monthOf p a
+unfolding monthOf streamOf
+month-stops p a b h = rw (read-stops mostTables a b h)

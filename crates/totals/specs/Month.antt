@@ -19,7 +19,7 @@ tablesRead m = m .figures .tables + m .figures .refused
 
 -- ---- what the functions promise, of input that is read piece by piece
 
--- the month of some stream
+-- the month of some stream, whatever its bytes are
 pub record IsMonth (p : Bytes) (m : Month) : Type 0 where
   pub stream : Bytes
   pub is : m ≡ monthOf p stream

@@ -260,13 +260,15 @@ mod compared {
         }
     }
 
-    /// What bin/add-months makes of these texts, each in a file of its own: the sums, or the sentence that refuses them.
-    fn added_up(texts: &[&str]) -> Result<String, String> {
+    /// What bin/add-months makes of streams with these bytes and counts, each in a file of its own: the sums, or the
+    /// sentence that refuses them.
+    fn added_up(streams: &[(&[u8], &str)]) -> Result<String, String> {
         let folder = temp_dir().join(format!("add-months-{}", std::process::id()));
         create_dir_all(&folder).expect("a folder");
-        let files: Vec<_> = (0..texts.len()).map(|number| folder.join(number.to_string())).collect();
-        for (file, text) in files.iter().zip(texts) {
-            write(file, text).expect("a file");
+        let files: Vec<_> = (0..streams.len()).map(|number| folder.join(format!("a month={number}"))).collect();
+        for (file, (stream, count)) in files.iter().zip(streams) {
+            write(file, stream).expect("a file");
+            write(file.with_added_extension("count"), count).expect("a file");
         }
         let script = Path::new(env!("CARGO_MANIFEST_DIR")).join("../../bin/add-months");
         let done = Command::new(script).args(&files).output().expect("the script runs");
@@ -281,25 +283,31 @@ mod compared {
         let cases: Vec<_> = good_cases(150).collect();
         let profile = &cases[0].profile;
         let parts: Vec<_> = cases.chunks(CASES_OF_A_STREAM).map(tables).collect();
-        let counted: Vec<_> = parts.iter().map(|tables| written(&stream(profile, tables))).collect();
-        let counted: Vec<_> = counted.iter().map(String::as_str).collect();
+        let streams: Vec<_> = parts.iter().map(|tables| stream(profile, tables)).collect();
+        let counts: Vec<_> = streams.iter().map(|stream| written(stream)).collect();
+        let counted: Vec<_> =
+            streams.iter().map(Vec::as_slice).zip(counts.iter().map(String::as_str)).collect();
         assert_eq!(added_up(&counted).as_deref(), Ok(&written(&stream(profile, parts.concat()))[..]));
-        let whole = stream(profile, &parts[0]);
+        let (whole, count) = counted[0];
         let cut = written(&whole[..whole.len() - 1]);
-        let few_lines = counted[0].split_inclusive('\n').take(20).collect::<String>();
-        for (text, sentence) in [
-            (&cut[..], "it ended as cut"),
-            ("refusal=1\nplace=0\n", "its profile was refused"),
-            (&few_lines, "it has 20 lines"),
-            ("", "it is empty"),
-            ("tables=many\n", "line 1 is not NAME=NUMBER"),
+        let few_lines = count.split_inclusive('\n').take(20).collect::<String>();
+        let misnamed = count.replace("rounds_1=", "rounds_0=");
+        let mut other = whole.to_vec();
+        other[12] ^= 1;
+        for (stream, count, sentence) in [
+            (whole, &cut[..], "it ended as cut"),
+            (whole, "refusal=1\nplace=0\n", "its profile was refused"),
+            (whole, &few_lines, "it has 20 lines"),
+            (whole, &misnamed, "line 3 is not rounds_1="),
+            (whole, "tables=many\n", "line 1 is not a number"),
+            (&other, count, "its profile is not that of"),
         ] {
-            for texts in [[counted[0], text], [text, counted[0]]] {
-                let refused = added_up(&texts).expect_err("a file that cannot be added");
+            for streams in [[counted[0], (stream, count)], [(stream, count), counted[0]]] {
+                let refused = added_up(&streams).expect_err("a count that cannot be added");
                 assert!(refused.contains(sentence) && refused.lines().count() == 1, "{refused:?}");
             }
         }
-        assert!(added_up(&[]).expect_err("no files").contains("name the files"));
+        assert!(added_up(&[]).expect_err("no streams").contains("name the streams"));
     }
 
     #[test]

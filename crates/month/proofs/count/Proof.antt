@@ -12,10 +12,10 @@ use Rattle.month.proofs.count.Statement.{statement}
 use Rattle.month.proofs.count.Tie as tie
 
 abbrev Inv-loop : tie.InvT-loop
-Inv-loop profile buf₀ month₀ tables₀ buf month tables = (length buf ≡ length buf₀) × (tables ≤ 1000000) × IsOpen profile month
+Inv-loop profile buf₀ month₀ tables-read₀ buf month tables-read = (length buf ≡ length buf₀) × (tables-read ≤ 1000000) × IsOpen profile month
 
 abbrev μ-loop : tie.MeasureT-loop
-μ-loop profile buf₀ month₀ tables₀ buf month tables = 1000000 - tables
+μ-loop profile buf₀ month₀ tables-read₀ buf month tables-read = 1000000 - tables-read
 
 start-requires : tie.Need-start-requires Inv-loop μ-loop
 start-requires c κs = search needs
@@ -57,8 +57,8 @@ same-length-2 c = search needs
 returns-2 : tie.Need-returns-2 Inv-loop μ-loop
 returns-2 c = counted (c .before .before .before)
 
-add-tables : tie.Need-add-tables Inv-loop μ-loop
-add-tables c = search needs
+add-tables-read : tie.Need-add-tables-read Inv-loop μ-loop
+add-tables-read c = search needs
 
 progress-requires : tie.Need-progress-requires Inv-loop μ-loop
 progress-requires c κs = search needs
@@ -111,7 +111,7 @@ count-spec =
     returns
     same-length-2
     returns-2
-    add-tables
+    add-tables-read
     progress-requires
     loop-less
     loop-again

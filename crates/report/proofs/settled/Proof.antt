@@ -8,7 +8,7 @@ use borrow.Author.Needs.{needs}
 use Rattle.columns.specs.Column.{Bytes}
 use Rattle.world.specs.Rows.{rows}
 use Rattle.refusals.proofs.Tells.{accepted-told}
-use Rattle.initial.proofs.Answers.{fresh-tells, fresh-sized}
+use Rattle.initial.proofs.Answers.{initial-tells, initial-sized}
 use Rattle.report.specs.Text.{runText}
 use Rattle.report.proofs.Run.{run-few}
 use Rattle.report.proofs.settled.Statement.{statement}
@@ -32,7 +32,7 @@ made c = c .before .before .before .before
 
 -- the columns have room for every table
 sized : (c : tie.After-rows) → let r = made c .settle .result in (length (r .signal) ≡ 1024) × (length (r .weak) ≡ 1024) × (length (r .strong) ≡ 1024)
-sized c = fresh-sized (made c .settle .ensures) (rows-few (start (made c .before)))
+sized c = initial-sized (made c .settle .ensures) (rows-few (start (made c .before)))
 
 -- a column has an entry for each row
 fits : (c : tie.After-rows) (room : ℕ) → room ≡ 1024 → c .rows .result ≤ room
@@ -68,7 +68,7 @@ unfolding runText
 returns c =
     let put = c .before .before in
     let r = put .before .before .before .before .before in
-    let told = fresh-tells (made r .settle .ensures) in
+    let told = initial-tells (made r .settle .ensures) in
     let s = told .done (accepted-told told (start (made r .before) .pre .0)) in
     let first : (column : Bytes) → take (r .rows .result) column ≡ take (rows (start (made r .before) .args .table .now)) column = λ column. ap (λ n. take n column) (r .rows .ensures) in
     let signal = first _ ∙ s .signals in

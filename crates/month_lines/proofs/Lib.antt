@@ -1,0 +1,2 @@
+-- What the output for a whole input is.
+pub mod Output
