@@ -265,7 +265,8 @@ mod compared {
     fn added_up(streams: &[(&[u8], &str)]) -> Result<String, String> {
         let folder = temp_dir().join(format!("add-months-{}", std::process::id()));
         create_dir_all(&folder).expect("a folder");
-        let files: Vec<_> = (0..streams.len()).map(|number| folder.join(format!("a month={number}"))).collect();
+        let files: Vec<_> =
+            (0..streams.len()).map(|number| folder.join(format!("a month={number}"))).collect();
         for (file, (stream, count)) in files.iter().zip(streams) {
             write(file, stream).expect("a file");
             write(file.with_added_extension("count"), count).expect("a file");
@@ -312,7 +313,8 @@ mod compared {
 
     #[test]
     fn progress_is_told_on_standard_error() {
-        for (tables, told) in [(9_999, ""), (25_000, "month: 10000 tables read\nmonth: 20000 tables read\n")] {
+        for (tables, told) in [(9_999, ""), (25_000, "month: 10000 tables read\nmonth: 20000 tables read\n")]
+        {
             let stream = many(tables, &[]);
             let written = run(&program(), &stream).expect("the program runs");
             assert_same(&written.output, &expected(&stream), &stream);
