@@ -2,6 +2,8 @@
 use libc::STDERR_FILENO;
 use libc::STDIN_FILENO;
 use libc::STDOUT_FILENO;
+use reading::Input;
+use reading::read_all;
 use streams::COUNT_BYTES;
 use streams::Ending;
 use streams::MOST_TABLES;
@@ -9,7 +11,8 @@ use totals::Month;
 ghost use Prim.Native.Nat.{_≤_};
 ghost use lib.ListN.{length};
 ghost use Rattle.totals.specs.Month.{IsMonth};
-ghost use Rattle.month.specs.Input.{IsPiece};
+ghost use Rattle.reading.specs.Input.{AtMost};
+ghost use Rattle.month.specs.Piece.{IsPiece};
 
 const PROFILE_BYTES: usize = 13;
 
@@ -33,68 +36,84 @@ fn progress(tables_read: u64) {
     }
 }
 
-// Reads a row count and its table into the front of a buffer, and answers how many bytes they are: fewer where the input ends.
-fn read_table(buf: &mut [u8]) -> usize
+// Reads a row count and its table into the front of a buffer: fewer bytes where the input ends.
+fn read_table(buf: &mut [u8]) -> Input
     requires { ⌜ 32772 ≤ length (now buf) ⌝ }
     ensures { λ r. ⌜ IsPiece (now (buf .exit)) r ⌝ }
 {
-    let n = io::read_full(STDIN_FILENO, &mut buf[0..COUNT_BYTES]);
+    let Input::Bytes(n) = read_all(STDIN_FILENO, &mut buf[0..COUNT_BYTES]) else {
+        return Input::Unreadable;
+    };
     if n < COUNT_BYTES {
-        return n;
+        return Input::Bytes(n);
     }
     let end = COUNT_BYTES + streams::bytes_to_read(buf);
-    n + io::read_full(STDIN_FILENO, &mut buf[COUNT_BYTES..end])
+    let Input::Bytes(more) = read_all(STDIN_FILENO, &mut buf[COUNT_BYTES..end]) else {
+        return Input::Unreadable;
+    };
+    Input::Bytes(n + more)
 }
 
-// Reads one byte into the front of a buffer, if there is one, and answers how many there were.
-fn read_byte(buf: &mut [u8]) -> usize
+// Reads one byte into the front of a buffer, if there is one.
+fn read_byte(buf: &mut [u8]) -> Input
     requires { ⌜ 1 ≤ length (now buf) ⌝ }
-    ensures { λ r. ⌜ r ≤ length (now (buf .exit)) ⌝ }
+    ensures { λ r. ⌜ AtMost 1 r ⌝ }
 {
-    io::read_full(STDIN_FILENO, &mut buf[0..1])
+    read_all(STDIN_FILENO, &mut buf[0..1])
+}
+
+// What a stream came to: a month, up to where it could be read.
+struct Counted {
+    month: Month,
+    readable: bool,
 }
 
 // The month of the tables that are read, one at a time, until the reading ends. After the last table that may be read one byte more tells whether
 // the input ends there, too.
-fn count(profile: &[u8], buf: &mut [u8]) -> Month
+fn count(profile: &[u8], buf: &mut [u8]) -> Counted
     requires { ⌜ 32772 ≤ length (now buf) ⌝ }
-    ensures { λ r. ⌜ IsMonth (now (profile .entry)) r ⌝ }
+    ensures { λ r. ⌜ IsMonth (now (profile .entry)) (r .month) ⌝ }
 {
     let mut month = totals::start();
     let mut tables_read = 0;
     while tables_read < MOST_TABLES {
-        let n = read_table(buf);
+        let Input::Bytes(n) = read_table(buf) else {
+            return Counted {
+                month,
+                readable: false,
+            };
+        };
         let next = totals::read(month, profile, &buf[..n]);
         let ending = next.ending;
         let Ending::Whole = ending else {
-            return next;
+            return Counted {
+                month: next,
+                readable: true,
+            };
         };
         if n == 0 {
-            return next;
+            return Counted {
+                month: next,
+                readable: true,
+            };
         }
         month = next;
         tables_read += 1;
         progress(tables_read);
     }
-    let n = read_byte(buf);
-    totals::read(month, profile, &buf[..n])
-}
-
-// Whether one more read finds the end of the input. It is taken that after a read that failed it does not.
-fn at_end() -> bool {
-    let mut one = [0u8; 1];
-    libc::read(STDIN_FILENO, &mut one) == 0
-}
-
-fn is_count(ending: Ending) -> bool {
-    match ending {
-        Ending::Whole => false,
-        Ending::Cut => false,
-        Ending::Count => true,
+    let Input::Bytes(n) = read_byte(buf) else {
+        return Counted {
+            month,
+            readable: false,
+        };
+    };
+    Counted {
+        month: totals::read(month, profile, &buf[..n]),
+        readable: true,
     }
 }
 
-// Writes the output for a profile and the month of the tables after it.
+// Writes the text for a profile and the month of the tables after it.
 fn report(profile: &[u8], month: Month) {
     let mut out = io::buffer();
     let n = month_lines::text_of(&mut out, profile, month);
@@ -103,30 +122,34 @@ fn report(profile: &[u8], month: Month) {
     }
 }
 
-// Reports where the input has ended, or need not end since the reading stopped before.
-fn report_if(stopped: bool, profile: &[u8], month: Month) {
-    if stopped || at_end() {
-        report(profile, month);
-    } else {
-        say(b"month: standard input cannot be read\n");
-    }
+fn say_unreadable() {
+    say(b"month: standard input cannot be read\n");
 }
 
 // Counts the tables after a good profile.
 fn count_tables(profile: &[u8]) {
     let mut buf = [0u8; MOST_BYTES];
-    let month = count(profile, &mut buf);
-    let ending = month.ending;
-    report_if(is_count(ending), profile, month);
+    let counted = count(profile, &mut buf);
+    let month = counted.month;
+    if counted.readable {
+        report(profile, month);
+    } else {
+        say_unreadable();
+    }
+}
+
+fn run(profile: &[u8]) {
+    if layout::good_profile(profile) {
+        count_tables(profile);
+    } else {
+        report(profile, totals::start());
+    }
 }
 
 fn main() {
     let mut buf = [0u8; PROFILE_BYTES];
-    let n = io::read_full(STDIN_FILENO, &mut buf);
-    let profile = &buf[..n];
-    if layout::good_profile(profile) {
-        count_tables(profile);
-    } else {
-        report_if(n == PROFILE_BYTES, profile, totals::start());
+    match read_all(STDIN_FILENO, &mut buf) {
+        Input::Bytes(n) => run(&buf[..n]),
+        Input::Unreadable => say_unreadable(),
     }
 }

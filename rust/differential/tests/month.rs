@@ -12,8 +12,10 @@ mod compared {
     use std::ffi::OsString;
     use std::fs::{File, create_dir_all, remove_dir_all, write};
     use std::io::Write;
+    use std::os::fd::OwnedFd;
+    use std::os::unix::net::UnixStream;
     use std::path::Path;
-    use std::process::Command;
+    use std::process::{Command, Stdio};
 
     use differential::generate::{BENCH_PROFILE, Case};
     use differential::month::{Ended, Figures, MOST_TABLES, Month, expected, stream};
@@ -325,8 +327,26 @@ mod compared {
     /// A folder can be opened, but not read.
     #[test]
     fn a_standard_input_that_cannot_be_read() {
-        let folder = File::open(env!("CARGO_MANIFEST_DIR")).expect("a folder");
-        let done = Command::new(program()).stdin(folder).output().expect("the program runs");
+        assert_unreadable(File::open(env!("CARGO_MANIFEST_DIR")).expect("a folder"));
+    }
+
+    /// A socket whose other end was closed with something unread fails once it has given what was sent, be that a whole
+    /// stream, a part of one, or a part of a profile.
+    #[test]
+    fn a_standard_input_that_fails_on_the_way() {
+        let whole = stream(&BENCH_PROFILE, short_tables());
+        for length in [0, 5, PROFILE_BYTES, PROFILE_BYTES + 2, whole.len() - 1, whole.len()] {
+            let (mut sender, mut receiver) = UnixStream::pair().expect("two sockets");
+            receiver.write_all(&[0]).expect("a byte that is not read");
+            sender.write_all(&whole[..length]).expect("the bytes before the failure");
+            drop(sender);
+            assert_unreadable(OwnedFd::from(receiver));
+        }
+    }
+
+    /// Asserts that the program says of such an input that it cannot be read, and writes no figure.
+    fn assert_unreadable(input: impl Into<Stdio>) {
+        let done = Command::new(program()).stdin(input).output().expect("the program runs");
         assert_eq!(str::from_utf8(&done.stdout), Ok(""));
         let told = str::from_utf8(&done.stderr).expect("UTF-8");
         assert!(told.contains("standard input cannot be read") && told.lines().count() == 1, "{told:?}");

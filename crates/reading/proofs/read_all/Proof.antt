@@ -1,12 +1,12 @@
--- `settle::read_all` meets its contract. The loop's invariant: no more was read than the buffer has. Assumes nothing.
+-- `reading::read_all` meets its contract. The loop's invariant: no more was read than the buffer has. Assumes nothing.
 use mathlib.Core.Path.{_≡_, _∙_}
 use Prim.Native.Nat.{_≤_, _-_}
 use native.Mathlib.Omega.{arith}
 use lib.ListN.{length, length-take, length-drop}
 use borrow.Rule.Slice.PartMut.{same-len-mid}
 use borrow.Author.Needs.{needs}
-use Rattle.settle.proofs.read_all.Statement.{statement}
-use Rattle.settle.proofs.read_all.Tie as tie
+use Rattle.reading.proofs.read_all.Statement.{statement}
+use Rattle.reading.proofs.read_all.Tie as tie
 
 abbrev Inv-loop : tie.InvT-loop
 Inv-loop fd buf₀ done₀ buf done = (done ≤ length buf) × (length buf ≡ length buf₀)
