@@ -8,7 +8,7 @@ use Rattle.blocks.specs.Profile.{says}
 use Rattle.places.specs.Signed.{signed32, signed8, clamp32, satAdd}
 use Rattle.places.specs.Places.{samePos, before, opposite, step, horizontalOffset, beside, adjacent}
 use Rattle.world.specs.Rows.{posOf, supportOf, armEntry, storedArm}
-use Rattle.world.specs.Find.{find, kindAt}
+use Rattle.world.specs.Find.{firstAtOrPast, find, kindAt}
 use Rattle.traits.specs.Traits.{plain, ofShape, traits, traitsAt}
 use Rattle.layout.specs.Good.{goodProfile, goodPlace, goodRow}
 use Rattle.refusals.specs.Check.{checkRows, checkTable, checkInput}
@@ -40,5 +40,5 @@ use Rattle.totals.specs.Month.{monthOf}
 use Rattle.month_lines.specs.Lines.{numberedLine, numberedLines, monthText, textOf, outputOf as monthOutput}
 
 unfoldable pub computing : ℕ
-unfolding tabulateFrom concatRowsFrom same firstFrom indicesFrom settling says signed32 signed8 clamp32 satAdd samePos before opposite step horizontalOffset beside adjacent posOf supportOf armEntry storedArm find kindAt plain ofShape traits traitsAt goodProfile goodPlace goodRow checkRows checkTable checkInput isSupported lacksSupport supportIssues checkSupports ahead outputOf inputOf across sidesOf connects componentConnects joins rises drops inferPast inferWireConnection armOf hasArm fitsHorizontal fitsRise fitsFall fits ruleAlong firstRule transferBy dustTransfer transmitsBy entryOf entriesOf withOpposite drawn redrawnRow updateWireShapes goodDevice checkDevices switchLevel emittedLevel emitted outputsTo isSupportOf isCharged emittedToStrong strongToWeak armTo alongArm touches feeds dustToWeakBy emittedToDustBy strongToDustBy networkOf roundsOf settled checkCall checkSettle devicesOf delayOf bitsSet isCandidate goodQueue goodLamp goodTorch goodState checkState freshDevice freshDevices freshQueue freshLamp freshRow freshState repeaterInputLevel isRequested locksFrom isLocked nextQueue repeaterRow torchSupportIsPowered nextToggles nextCandidate torchRow compared nextComparator deviceRow nextLit nextLeft lampRow withDevices withLamps settledOf setDevices setLamps tick ticks checkFresh checkStep checkTick switched decimalWithin decimalOf signedText lineOf rowText settledText refusalText checkRun checkWhole runText settleText readWithin streamOf asStream countBelow sumOf figuresOf monthOf numberedLine numberedLines monthText textOf monthOutput
+unfolding tabulateFrom concatRowsFrom same firstFrom indicesFrom settling says signed32 signed8 clamp32 satAdd samePos before opposite step horizontalOffset beside adjacent posOf supportOf armEntry storedArm firstAtOrPast find kindAt plain ofShape traits traitsAt goodProfile goodPlace goodRow checkRows checkTable checkInput isSupported lacksSupport supportIssues checkSupports ahead outputOf inputOf across sidesOf connects componentConnects joins rises drops inferPast inferWireConnection armOf hasArm fitsHorizontal fitsRise fitsFall fits ruleAlong firstRule transferBy dustTransfer transmitsBy entryOf entriesOf withOpposite drawn redrawnRow updateWireShapes goodDevice checkDevices switchLevel emittedLevel emitted outputsTo isSupportOf isCharged emittedToStrong strongToWeak armTo alongArm touches feeds dustToWeakBy emittedToDustBy strongToDustBy networkOf roundsOf settled checkCall checkSettle devicesOf delayOf bitsSet isCandidate goodQueue goodLamp goodTorch goodState checkState freshDevice freshDevices freshQueue freshLamp freshRow freshState repeaterInputLevel isRequested locksFrom isLocked nextQueue repeaterRow torchSupportIsPowered nextToggles nextCandidate torchRow compared nextComparator deviceRow nextLit nextLeft lampRow withDevices withLamps settledOf setDevices setLamps tick ticks checkFresh checkStep checkTick switched decimalWithin decimalOf signedText lineOf rowText settledText refusalText checkRun checkWhole runText settleText readWithin streamOf asStream countBelow sumOf figuresOf monthOf numberedLine numberedLines monthText textOf monthOutput
 computing = 0

@@ -29,7 +29,6 @@ use Rattle.wire.proofs.Around.{transmits-dust}
 use Rattle.edges.specs.Edges.{dustToWeakBy, dustToWeak}
 use Rattle.gather.specs.Slots.{aroundAt, overAt, noRow, slotOf, feederAt, underAt, feeders, unders}
 use Rattle.network.specs.Laws.Top.{top-same, top-less}
-use Rattle.gather.proofs.Halving.{byHalves-is}
 use Rattle.gather.proofs.Near.{Among, transmits-near, dustToWeak-near}
 
 -- ---- slots at the positions from which the edges to row i can come
@@ -91,7 +90,7 @@ module _ (p t : Bytes) (a : Table t) (i : ℕ) (l : i < rows t) where
       let row-is : (i * 12 + k) / 12 ≡ i = omega arith in
       let slot-is : (i * 12 + k) % 12 ≡ k = omega arith in
       row-tabulate (rows t * 12) (λ m. feederAt p t (m / 12) (m % 12)) (i * 12 + k) (omega arith)
-      ∙ rw (row-is, slot-is, byHalves-is t a (aroundAt (posOf t i) k)) (guarded (isDust (kindOf t i)) _ _ (λ j e. transmits-dust (armOf p t) p t j i e .1))
+      ∙ rw (row-is, slot-is) (guarded (isDust (kindOf t i)) _ _ (λ j e. transmits-dust (armOf p t) p t j i e .1))
 
   dustToWeak-row : (k : ℕ) → k < 5 → row (unders p t (rows t * 5)) (i * 5 + k) ≡ slotOf (λ j. dustToWeak p t j i) (find t (overAt (posOf t i) k))
   unfolding underAt dustToWeakBy
@@ -99,7 +98,7 @@ module _ (p t : Bytes) (a : Table t) (i : ℕ) (l : i < rows t) where
       let row-is : (i * 5 + k) / 5 ≡ i = omega arith in
       let slot-is : (i * 5 + k) % 5 ≡ k = omega arith in
       row-tabulate (rows t * 5) (λ m. underAt p t (m / 5) (m % 5)) (i * 5 + k) (omega arith)
-      ∙ rw (row-is, slot-is, byHalves-is t a (overAt (posOf t i) k))
+      ∙ rw (row-is, slot-is)
       (guarded (traits p t i .weak) _ _ (λ j e. and-true (traits p t i .weak) _ (and-true (isDust (kindOf t j)) _ e .1) .0))
 
 module _ (p t : Bytes) (a : Table t) (s : Column) (sized : length s ≡ rows t) (i : ℕ) (l : i < rows t) where

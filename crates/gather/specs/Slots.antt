@@ -10,10 +10,10 @@ use Rattle.blocks.specs.Kind.{isDust}
 use Rattle.places.specs.declared.Pos.{Pos}
 use Rattle.places.specs.Places.{North, East, South, West, beside, above, below}
 use Rattle.world.specs.Rows.{posOf, kindOf}
+use Rattle.world.specs.Find.{find}
 use Rattle.traits.specs.Traits.{traits}
 use Rattle.wire.specs.Transfer.{transmits}
 use Rattle.edges.specs.Edges.{dustToWeak}
-use Rattle.gather.specs.Halves.{findByHalves}
 
 -- ---- the positions
 
@@ -53,11 +53,11 @@ slotOf edge f = onFound (λ j. entryOf (edge j) j) noRow f
 module _ (p t : Bytes) (i k : ℕ) where
   -- the dust at the k-th position around the dust i that transmits to it
   unfoldable pub feederAt : ℕ
-  feederAt = cond (isDust (kindOf t i)) (slotOf (λ j. transmits p t j i) (findByHalves t (aroundAt (posOf t i) k))) noRow
+  feederAt = cond (isDust (kindOf t i)) (slotOf (λ j. transmits p t j i) (find t (aroundAt (posOf t i) k))) noRow
 
   -- the dust at the k-th position over the block i that gives it weak power
   unfoldable pub underAt : ℕ
-  underAt = cond (traits p t i .weak) (slotOf (λ j. dustToWeak p t j i) (findByHalves t (overAt (posOf t i) k))) noRow
+  underAt = cond (traits p t i .weak) (slotOf (λ j. dustToWeak p t j i) (find t (overAt (posOf t i) k))) noRow
 
 -- n slots, twelve a row
 abbrev pub feeders : Bytes → Bytes → ℕ → Column

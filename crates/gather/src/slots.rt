@@ -12,6 +12,7 @@ use world::row::pos_of;
 ghost use mathlib.Core.Path.{_≡_};
 ghost use Prim.Native.Nat.{_<_};
 ghost use lib.ListN.{length};
+ghost use Rattle.world.specs.Find.{InOrder};
 ghost use Rattle.gather.specs.Slots.{aroundFacing, aroundHeight, atHeight, aroundAt, overAt, entryOf, feederAt, underAt, feeders, unders};
 
 // The entry of a slot that is empty.
@@ -91,6 +92,7 @@ fn slot_of(row: usize, edge: bool) -> u16
 
 // The dust at the k-th position around row i that transmits to it.
 pub fn feeder_at(profile: &[u8], table: &[u8], i: usize, k: u8) -> u16
+    requires { ⌜ InOrder (now table) ⌝ }
     ensures { λ r. ⌜ r ≡ feederAt (now (profile .entry)) (now (table .entry)) i k ⌝ }
 {
     if kind_of(table, i) != kind::REDSTONE_WIRE {
@@ -104,6 +106,7 @@ pub fn feeder_at(profile: &[u8], table: &[u8], i: usize, k: u8) -> u16
 
 // The dust at the k-th position over row i that gives it weak power.
 pub fn under_at(profile: &[u8], table: &[u8], i: usize, k: u8) -> u16
+    requires { ⌜ InOrder (now table) ⌝ }
     ensures { λ r. ⌜ r ≡ underAt (now (profile .entry)) (now (table .entry)) i k ⌝ }
 {
     if !redstone_traits(profile, table, i).weak {
@@ -117,6 +120,7 @@ pub fn under_at(profile: &[u8], table: &[u8], i: usize, k: u8) -> u16
 
 // The slots of the dust that transmits, twelve a row.
 pub fn fill_feeders(profile: &[u8], table: &[u8], out: &mut [u16])
+    requires { ⌜ InOrder (now table) ⌝ }
     ensures { λ _. ⌜ now (out .exit) ≡ feeders (now (profile .entry)) (now (table .entry)) (length (now (out .entry))) ⌝ }
 {
     for m in 0..out.len() {
@@ -126,6 +130,7 @@ pub fn fill_feeders(profile: &[u8], table: &[u8], out: &mut [u16])
 
 // The slots of the dust that gives weak power, five a row.
 pub fn fill_unders(profile: &[u8], table: &[u8], out: &mut [u16])
+    requires { ⌜ InOrder (now table) ⌝ }
     ensures { λ _. ⌜ now (out .exit) ≡ unders (now (profile .entry)) (now (table .entry)) (length (now (out .entry))) ⌝ }
 {
     for m in 0..out.len() {

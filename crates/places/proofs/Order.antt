@@ -2,8 +2,10 @@
 -- Assumes nothing.
 use mathlib.Core.Path.{_≡_, refl, ap, sym, _∙_}
 use mathlib.Core.Bool.{Bool, true, false, _&&_, _||_, false≢true}
-use mathlib.Core.Logic.{⊎-elim}
+use mathlib.Core.Logic.{_⊎_, inl, inr, ⊎-elim, by-cases}
 use mathlib.Core.List.{List, [], _∷_, List·Memᴰ, List·Memᴰ·head, List·Memᴰ·tail}
+use Prim.Native.Nat.{ℕ, _<_}
+use native.Mathlib.Decide.{decLt}
 use native.Mathlib.Omega.{arith}
 use borrow.Author.Tests.{ltb-true, lt-ltb, eqb-true, eq-eqb}
 use lib.IntN.{ℤ, pos, negsuc}
@@ -124,3 +126,58 @@ before-trans p q r g h = cases-before p r (go (before-cases p q g) (before-cases
     go (by-z c d a) (by-x b) = by-x (rw c b)
     go (by-z c d a) (by-y e b) = by-y (c ∙ e) (rw d b)
     go (by-z c d a) (by-z e f b) = by-z (c ∙ e) (d ∙ f) (less-trans a b)
+
+-- a and b as they stand in an order
+data Compared {A : Type 0} (less : A → A → Type 0) (a b : A) : Type 0 where
+  is-less : less a b → Compared less a b
+  is-same : a ≡ b → Compared less a b
+  is-more : less b a → Compared less a b
+
+compared : (a b : ℤ) → Compared Less a b
+compared (pos a) (pos b) = by-cases (decLt a b) (λ l. is-less (record { less = lt-ltb a b l })) (λ m. by-cases (decLt b a) (λ l. is-more (record { less = lt-ltb b a l })) (λ n. is-same (ap pos (omega arith))))
+compared (pos a) (negsuc b) = is-more (record { less = refl })
+compared (negsuc a) (pos b) = is-less (record { less = refl })
+compared (negsuc a) (negsuc b) = by-cases (decLt b a) (λ l. is-less (record { less = lt-ltb b a l })) (λ m. by-cases (decLt a b) (λ l. is-more (record { less = lt-ltb a b l })) (λ n. is-same (ap negsuc (omega arith))))
+
+positions : (p q : Pos) → Compared Before p q
+positions p q = along-x (compared (p .x) (q .x))
+  where
+    along-z : p .x ≡ q .x → p .y ≡ q .y → Compared Less (p .z) (q .z) → Compared Before p q
+    along-z d e (is-less l) = is-less (by-z d e l)
+    along-z d e (is-same f) = is-same (λ i. record { x = d i; y = e i; z = f i })
+    along-z d e (is-more l) = is-more (by-z (sym d) (sym e) l)
+
+    along-y : p .x ≡ q .x → Compared Less (p .y) (q .y) → Compared Before p q
+    along-y d (is-less l) = is-less (by-y d l)
+    along-y d (is-same e) = along-z d e (compared (p .z) (q .z))
+    along-y d (is-more l) = is-more (by-y (sym d) l)
+
+    along-x : Compared Less (p .x) (q .x) → Compared Before p q
+    along-x (is-less l) = is-less (by-x l)
+    along-x (is-same d) = along-y d (compared (p .y) (q .y))
+    along-x (is-more l) = is-more (by-x l)
+
+-- what does not come before q stands at q or after it
+pub at-or-after : (p q : Pos) → before p q ≡ false → (p ≡ q) ⊎ (before q p ≡ true)
+at-or-after p q h = go (positions p q)
+  where
+    go : Compared Before p q → (p ≡ q) ⊎ (before q p ≡ true)
+    go (is-less l) = absurd (false≢true (sym h ∙ cases-before p q l))
+    go (is-same e) = inl e
+    go (is-more l) = inr (cases-before q p l)
+
+pub before-asym : (p q : Pos) → before p q ≡ true → before q p ≡ false
+before-asym p q h = go (before q p) refl
+  where
+    go : (b : Bool) → before q p ≡ b → before q p ≡ false
+    go true e = absurd (before-irrefl p (before-trans p q p h e))
+    go false e = e
+
+-- r does not come before q, nor q before p: r does not come before p
+pub not-before-trans : (p q r : Pos) → before q p ≡ false → before r q ≡ false → before r p ≡ false
+not-before-trans p q r g h = go (before r p) refl
+  where
+    go : (b : Bool) → before r p ≡ b → before r p ≡ false
+    go true e =
+        absurd (false≢true (sym h ∙ ⊎-elim (λ (same : q ≡ p). rw same e) (λ after. before-trans r p q e after) (at-or-after q p g)))
+    go false e = e

@@ -2,7 +2,7 @@
 -- Assumes nothing.
 use mathlib.Core.Path.{_≡_, refl, ap, sym}
 use mathlib.Core.Logic.{by-cases}
-use mathlib.Core.Bool.{Bool, true, false, not}
+use mathlib.Core.Bool.{true, not}
 use Prim.Native.Nat.{ℕ, zero, suc, _+_, _-_, _%_, _<_}
 use native.Mathlib.Decide.{decLt}
 use native.Mathlib.Omega.{arith}
@@ -11,13 +11,13 @@ use lib.Dec.{eqb, leb}
 use borrow.Author.Tests.{eqb-true, eq-eqb, leb-true, le-leb, not-false}
 use Rattle.columns.specs.declared.Found.the-variants.{At}
 use Rattle.columns.specs.Column.{Bytes}
-use Rattle.columns.proofs.First.{at-first}
 use Rattle.places.specs.declared.Pos.{Pos}
-use Rattle.places.specs.Places.{samePos, before}
-use Rattle.places.proofs.Order.{samePos-true, samePos-refl, before-irrefl, before-trans}
+use Rattle.places.specs.Places.{before}
+use Rattle.places.proofs.Order.{before-irrefl, before-trans, before-asym}
 use Rattle.places.proofs.Steps.{InRange}
 use Rattle.world.specs.Rows.{rows, posOf}
-use Rattle.world.specs.Find.{standsAt, find}
+use Rattle.world.specs.Find.{find, InOrder}
+use Rattle.world.proofs.Finding.{find-first}
 use Rattle.refusals.specs.declared.Checked.the-variants.{Accepted}
 use Rattle.layout.specs.Good.{goodProfile}
 use Rattle.refusals.specs.Accepted.{Table}
@@ -82,19 +82,13 @@ module _ (t : Bytes) (a : Table t) where
       by-cases (decLt i j) (λ l. absurd (earlier-differs i j l h e))
       (λ m. by-cases (decLt j i) (λ l. absurd (earlier-differs j i l g (sym e))) (λ n. omega arith))
 
-  stands-not : (i j : ℕ) → j < i → i < rows t → samePos (posOf t j) (posOf t i) ≡ false
-  stands-not i j g h = go (samePos (posOf t j) (posOf t i)) refl
-    where
-      go : (b : Bool) → samePos (posOf t j) (posOf t i) ≡ b → samePos (posOf t j) (posOf t i) ≡ false
-      go true p = absurd (earlier-differs j i g h (samePos-true (posOf t j) (posOf t i) p))
-      go false p = p
+  -- it is in order
+  pub rows-in-order : InOrder t
+  rows-in-order = record { ordered = λ i h. before-asym (posOf t i) (posOf t (i + 1)) (a .ordered i h) }
 
   -- the look-up finds row i at row i's position
   pub find-own : (i : ℕ) → i < rows t → find t (posOf t i) ≡ At i
-  unfolding find
-  find-own i h =
-      at-first (standsAt t (posOf t i)) (rows t) 0 i
-      (record { from = omega arith; inside = omega arith; holds = samePos-refl (posOf t i); earlier = λ j _ l. stands-not i j l h })
+  find-own i h = find-first t (posOf t i) i h refl (λ j l. later-after j i l h)
 
   -- and at a position where row i stands
   pub find-at : (q : Pos) (i : ℕ) → i < rows t → posOf t i ≡ q → find t q ≡ At i

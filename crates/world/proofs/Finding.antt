@@ -1,26 +1,115 @@
--- Laws of the look-up.
+-- Laws of the look-up, of which its callers cite `found-stands`, `same-find` and, on rows in order, `find-in-order`.
 -- Assumes nothing.
-use mathlib.Core.Path.{_≡_}
-use Prim.Native.Nat.{ℕ, _<_}
+use mathlib.Core.Path.{_≡_, refl, sym, _∙_}
+use mathlib.Core.Bool.{Bool, true, false, not, true≢false}
+use mathlib.Core.Logic.{⊎-elim, by-cases}
+use Prim.Native.Nat.{ℕ, zero, suc, _+_, _-_, _≤_, _<_}
+use native.Mathlib.Decide.{decLt}
 use native.Mathlib.Omega.{arith}
+use borrow.Author.Tests.{not-true, not-false}
 use Rattle.columns.specs.Column.{Bytes}
-use Rattle.columns.specs.declared.Found.the-variants.{At}
-use Rattle.columns.specs.First.{firstFrom}
-use Rattle.columns.proofs.First.{IsFirst, first-at}
+use Rattle.columns.specs.declared.Found.{Found}
+use Rattle.columns.specs.declared.Found.the-variants.{At, Nothing}
+use Rattle.columns.specs.First.{foundIf, firstFrom, onFound}
+use Rattle.columns.proofs.First.{IsFirst, first-at, at-first, first-none, none-first}
 use Rattle.places.specs.declared.Pos.{Pos}
-use Rattle.places.specs.Places.{samePos}
-use Rattle.places.proofs.Order.{samePos-true}
+use Rattle.places.specs.Places.{samePos, before}
+use Rattle.places.proofs.Order.{samePos-true, samePos-refl, before-irrefl, at-or-after, not-before-trans}
 use Rattle.world.specs.Rows.{rows, posOf}
-use Rattle.world.specs.Find.{standsAt, find}
+use Rattle.world.specs.Find.{standsAt, isAtOrPast, firstAtOrPast, ifStanding, find, InOrder, firstStanding}
+
+-- no position comes before itself
+not-before-itself : (q : Pos) → before q q ≡ false
+not-before-itself q = go (before q q) refl
+  where
+    go : (b : Bool) → before q q ≡ b → before q q ≡ false
+    go true e = absurd (before-irrefl q e)
+    go false e = e
 
 -- the row that is found at q stands there
 pub found-stands : (t : Bytes) (q : Pos) (i : ℕ) → find t q ≡ At i → (i < rows t) × (posOf t i ≡ q)
-unfolding find
-found-stands t q i h =
-    let first : IsFirst (standsAt t q) 0 (rows t) i = first-at (standsAt t q) (rows t) 0 i h in
-    (omega arith, samePos-true (posOf t i) q (first .holds))
+unfolding find firstAtOrPast
+found-stands t q i h = go (firstAtOrPast t q) refl h
+  where
+    here : (k : ℕ) → k < rows t → (b : Bool) → standsAt t q k ≡ b → foundIf b k Nothing ≡ At i → (i < rows t) × (posOf t i ≡ q)
+    here k l true s e = let same : k ≡ i = cc in (omega arith, rw same at (samePos-true (posOf t k) q s))
+    here k l false s e = let z : _≡_ {A = ℕ} 0 1 = cc in absurd (omega arith)
+
+    go : (x : Found) → firstAtOrPast t q ≡ x → ifStanding t q x ≡ At i → (i < rows t) × (posOf t i ≡ q)
+    go (At k) e f =
+        let first : IsFirst (isAtOrPast t q) 0 (rows t) k = first-at (isAtOrPast t q) (rows t) 0 k e in
+        here k (omega (arith, first .inside)) (standsAt t q k) refl f
+    go Nothing e f = let z : _≡_ {A = ℕ} 0 1 = cc in absurd (omega arith)
+
+-- row k is found at q where it stands there and the rows ahead of it come before q
+pub find-first : (t : Bytes) (q : Pos) (k : ℕ) → k < rows t → posOf t k ≡ q → ((j : ℕ) → j < k → before (posOf t j) q ≡ true) → find t q ≡ At k
+unfolding find firstAtOrPast
+find-first t q k h stands earlier =
+    let first : firstFrom (isAtOrPast t q) (rows t) 0 ≡ At k =
+    at-first (isAtOrPast t q) (rows t) 0 k
+    (record { from = omega arith; inside = omega arith; holds = rw stands (rw (not-before-itself q)); earlier = λ j _ l. rw (earlier j l) }) in
+    rw (first, stands, samePos-refl q)
 
 -- tables whose rows have the same positions find the same
 pub same-find : (t u : Bytes) → rows t ≡ rows u → ((i : ℕ) → posOf t i ≡ posOf u i) → (q : Pos) → find t q ≡ find u q
-unfolding find
-same-find t u same-rows places q = λ x. firstFrom (λ i. samePos (places i x) q) (same-rows x) 0
+unfolding find firstAtOrPast
+same-find t u same-rows places q = λ x. onFound (λ i. foundIf (samePos (places i x) q) i Nothing) Nothing (firstFrom (λ i. not (before (places i x) q)) (same-rows x) 0)
+
+-- ---- rows in order
+
+elsewhere : (p q : Pos) → (p ≡ q → ⊥) → samePos p q ≡ false
+elsewhere p q h = go (samePos p q) refl
+  where
+    go : (b : Bool) → samePos p q ≡ b → samePos p q ≡ false
+    go true e = absurd (h (samePos-true p q e))
+    go false e = e
+
+before-elsewhere : (p q : Pos) → before p q ≡ true → samePos p q ≡ false
+before-elsewhere p q h = elsewhere p q (λ e. before-irrefl q (rw e at h))
+
+module _ (t : Bytes) (order : InOrder t) where
+  -- no row stands before an earlier one
+  steps : (i k : ℕ) → i + k < rows t → before (posOf t (i + k)) (posOf t i) ≡ false
+  steps i zero h = let same : i + 0 ≡ i = omega arith in rw same (not-before-itself (posOf t i))
+  steps i (suc k) h =
+      let next : i + k + 1 ≡ i + suc k = omega arith in
+      not-before-trans (posOf t i) (posOf t (i + k)) (posOf t (i + suc k))
+      (steps i k (omega arith))
+      (rw next at (order .ordered (i + k) (omega arith)))
+
+  pub later-not-before : (i j : ℕ) → i ≤ j → j < rows t → before (posOf t j) (posOf t i) ≡ false
+  later-not-before i j g h = let e : i + (j - i) ≡ j = omega arith in rw e at (steps i (j - i) (omega arith))
+
+  -- a row at or past q is followed by such rows alone
+  pub at-or-past-on : (q : Pos) (i j : ℕ) → i ≤ j → j < rows t → isAtOrPast t q i ≡ true → isAtOrPast t q j ≡ true
+  at-or-past-on q i j g h e =
+      rw (not-before-trans q (posOf t i) (posOf t j) (not-true _ e) (later-not-before i j g h))
+
+  -- "On rows in order its answers do not change": it is the first row that stands at the position
+  pub find-in-order : (q : Pos) → find t q ≡ firstStanding t q
+  unfolding find firstAtOrPast firstStanding
+  find-in-order q = go (firstAtOrPast t q) refl
+    where
+      go : (x : Found) → firstAtOrPast t q ≡ x → ifStanding t q x ≡ firstFrom (standsAt t q) (rows t) 0
+      go Nothing e =
+          sym (none-first (standsAt t q) (rows t) 0 (λ j l m. before-elsewhere (posOf t j) q (not-false _ (first-none (isAtOrPast t q) (rows t) 0 e j l m))))
+      go (At k) e = here (standsAt t q k) refl
+        where
+          first : IsFirst (isAtOrPast t q) 0 (rows t) k
+          first = first-at (isAtOrPast t q) (rows t) 0 k e
+
+          earlier : (j : ℕ) → j < k → samePos (posOf t j) q ≡ false
+          earlier j l = before-elsewhere (posOf t j) q (not-false _ (first .earlier j (omega arith) l))
+
+          here : (b : Bool) → standsAt t q k ≡ b → foundIf b k Nothing ≡ firstFrom (standsAt t q) (rows t) 0
+          here true s =
+              sym (at-first (standsAt t q) (rows t) 0 k (record { from = omega arith; inside = first .inside; holds = s; earlier = λ j _ l. earlier j l }))
+          here false s = sym (none-first (standsAt t q) (rows t) 0 (λ j _ l. by-cases (decLt j k) (earlier j) (λ m. later j (omega arith) (omega arith))))
+            where
+              later : (j : ℕ) → k ≤ j → j < rows t → samePos (posOf t j) q ≡ false
+              later j l m =
+                  elsewhere (posOf t j) q
+                  (λ same.
+                  ⊎-elim (λ (at : posOf t k ≡ q). true≢false (sym (rw at (samePos-refl q)) ∙ s))
+                  (λ past. true≢false (sym (rw same past) ∙ later-not-before k j l m))
+                  (at-or-after (posOf t k) q (not-true _ (first .holds))))

@@ -4,31 +4,50 @@ use columns::Found;
 use places::Place;
 use places::Pos;
 ghost use mathlib.Core.Path.{_≡_};
-ghost use Rattle.world.specs.Find.{standsAt, find, findAt, kindAt};
+ghost use Rattle.world.specs.Find.{isAtOrPast, firstAtOrPast, ifStanding, find, findAt, kindAt};
 
-// Whether a row stands at a position. Most rows of a search differ in x, so that y and z are read of few.
-fn stands_at(table: &[u8], row: usize, q: Pos) -> bool
-    ensures { λ r. ⌜ r ≡ standsAt (now (table .entry)) q row ⌝ }
+// Whether a row stands at a position or past it. Of the rows before it most have a smaller x, so that y and z are read of few.
+fn is_at_or_past(table: &[u8], row: usize, q: Pos) -> bool
+    ensures { λ r. ⌜ r ≡ isAtOrPast (now (table .entry)) q row ⌝ }
 {
-    if row::x_of(table, row) == q.x {
-        return row::pos_of(table, row).same(q);
+    if row::x_of(table, row) < q.x {
+        return false;
     }
-    false
+    !row::pos_of(table, row).before(q)
 }
 
-// The row that stands at a position: the first, where the rows are out of order.
-pub fn find(table: &[u8], q: Pos) -> Found
-    ensures { λ r. ⌜ r ≡ find (now (table .entry)) q ⌝ }
+fn first_at_or_past(table: &[u8], q: Pos) -> Found
+    ensures { λ r. ⌜ r ≡ firstAtOrPast (now (table .entry)) q ⌝ }
 {
     let n = row::rows(table);
     let mut i = 0;
     while i < n {
-        if stands_at(table, i, q) {
+        if is_at_or_past(table, i, q) {
             return Found::At(i);
         }
         i += 1;
     }
     Found::Nothing
+}
+
+// The row that a search ended at, if it stands at the position.
+pub fn if_standing(table: &[u8], q: Pos, first: Found) -> Found
+    ensures { λ r. ⌜ r ≡ ifStanding (now (table .entry)) q first ⌝ }
+{
+    let Found::At(i) = first else {
+        return Found::Nothing;
+    };
+    if row::pos_of(table, i).same(q) {
+        return Found::At(i);
+    }
+    Found::Nothing
+}
+
+// The row that stands at a position. Where the rows are out of order, the first at or past the position alone can be it.
+pub fn find(table: &[u8], q: Pos) -> Found
+    ensures { λ r. ⌜ r ≡ find (now (table .entry)) q ⌝ }
+{
+    if_standing(table, q, first_at_or_past(table, q))
 }
 
 pub fn find_at(table: &[u8], place: Place) -> Found

@@ -1,5 +1,6 @@
 -- `solver::prepare::prepare` meets its contract. Assumes nothing.
 use borrow.Author.Needs.{needs}
+use Rattle.refusals.proofs.Accepted.{rows-in-order}
 use Rattle.solver.proofs.Preparing.{prepared-from}
 use Rattle.solver.proofs.prepare.prepare.Statement.{statement}
 use Rattle.solver.proofs.prepare.prepare.Tie as tie
@@ -17,10 +18,10 @@ fill-direct-requires : tie.Need-fill-direct-requires
 fill-direct-requires c κs = search needs
 
 fill-feeders-requires : tie.Need-fill-feeders-requires
-fill-feeders-requires c κs = search needs
+fill-feeders-requires c κs = search (rows-in-order, needs)
 
 fill-unders-requires : tie.Need-fill-unders-requires
-fill-unders-requires c κs = search needs
+fill-unders-requires c κs = rows-in-order _ (c .before .before .before .before .before .before .before .before .before .before .before .before .before .before .before .before .before .before .before .before .before .before .before .before .before .before .before .before .before .before .before .before .before .before .pre .0)
 
 unmapped-requires : tie.Need-unmapped-requires
 unmapped-requires c κs = search needs

@@ -1,63 +1,19 @@
--- `world::find::find` meets its contract. The loop's invariant: the answer is that of the search from row i on. Assumes nothing.
+-- `world::find::find` meets its contract. Assumes nothing.
 use borrow.Author.Needs.{needs}
-use mathlib.Core.Path.{_≡_, sym, _∙_}
-use mathlib.Core.Bool.{true, false}
-use Prim.Native.Nat.{_≤_, _-_}
-use native.Mathlib.Nat.{sub-zero}
-use native.Mathlib.Omega.{arith}
-use Rattle.columns.specs.First.{firstFrom}
-use Rattle.columns.proofs.First.{scan-hit, scan-miss, scan-over}
-use Rattle.world.specs.Rows.{rows}
-use Rattle.world.specs.Find.{standsAt, find}
+use mathlib.Core.Path.{_∙_}
+use Rattle.world.specs.Find.{find}
 use Rattle.world.proofs.find.find.Statement.{statement}
 use Rattle.world.proofs.find.find.Tie as tie
 
-abbrev Inv-loop : tie.InvT-loop
-Inv-loop table q n i₀ i = (i ≤ n) × (find table q ≡ firstFrom (standsAt table q) (n - i) i)
+first-at-or-past-requires : tie.Need-first-at-or-past-requires
+first-at-or-past-requires c κs = search needs
 
-abbrev μ-loop : tie.MeasureT-loop
-μ-loop table q n i₀ i = n - i
+if-standing-requires : tie.Need-if-standing-requires
+if-standing-requires c κs = search needs
 
-rows-requires : tie.Need-rows-requires Inv-loop μ-loop
-rows-requires c κs = search needs
-
-loop-holds : tie.Need-loop-holds Inv-loop μ-loop
+returns : tie.Need-returns
 unfolding find
-loop-holds c = (omega arith, rw (sub-zero, c .rows .ensures))
-
-stands-at-requires : tie.Need-stands-at-requires Inv-loop μ-loop
-stands-at-requires c κs = search needs
-
-returns : tie.Need-returns Inv-loop μ-loop
-returns c =
-    let l = c .before .before .before in
-    sym (l .loop .inv .1 ∙ scan-hit _ _ _ (c .before .before .loop-test .taken) (sym (c .before .stands-at .ensures) ∙ c .if1 .taken))
-
-add-i : tie.Need-add-i Inv-loop μ-loop
-add-i c = omega arith
-
-loop-less : tie.Need-loop-less Inv-loop μ-loop
-loop-less c = omega arith
-
-loop-again : tie.Need-loop-again Inv-loop μ-loop
-loop-again c =
-    let l = c .before .before .before in
-    (omega arith, l .loop .inv .1 ∙ scan-miss _ _ _ (c .before .before .loop-test .taken) (sym (c .before .stands-at .ensures) ∙ c .if1 .left))
-
-returns-2 : tie.Need-returns-2 Inv-loop μ-loop
-returns-2 c = sym (c .before .loop .inv .1 ∙ scan-over _ _ _ (omega arith))
+returns c = rw (← c .before .first-at-or-past .ensures) (c .if-standing .ensures)
 
 pub find-spec : {M : Type 1} → statement M
-find-spec =
-    tie.close
-    (tie.spec
-    Inv-loop
-    μ-loop
-    rows-requires
-    loop-holds
-    stands-at-requires
-    returns
-    add-i
-    loop-less
-    loop-again
-    returns-2)
+find-spec = tie.close (tie.spec first-at-or-past-requires if-standing-requires returns)
