@@ -43,9 +43,12 @@ pub fn rows(table: &[u8]) -> Result<Vec<Row>, Fault> {
     packed.iter().enumerate().map(read).collect()
 }
 
-/// The number of the row at x, y, z, in a packed table that a call accepts.
+/// The number of the row at x, y, z.
+///
+/// Of rows out of order, which every call refuses, it is the first at or past x, y, z, if that one stands there.
 #[must_use]
 pub fn find(table: &[u8], position: [i32; 3]) -> Option<usize> {
     let (packed, _) = table.as_chunks::<ROW_BYTES>();
-    packed.binary_search_by_key(&position, |bytes| position_of(bytes)).ok()
+    let first = packed.iter().position(|bytes| position_of(bytes) >= position)?;
+    (position_of(&packed[first]) == position).then_some(first)
 }

@@ -190,6 +190,18 @@ fn a_table_is_read_and_looked_up() {
 }
 
 #[test]
+fn of_rows_out_of_order_the_first_at_or_past_the_position_is_looked_at() {
+    let strip = |places: &[i32]| -> Vec<u8> {
+        places.iter().flat_map(|x| Row::new(Kind::Solid, [*x, 1, 0]).bytes()).collect()
+    };
+    let found = |places: &[i32]| [0, 1, 2, 3, 4, 5].map(|x| find(&strip(places), [x, 1, 0]));
+    assert_eq!(found(&[1, 2, 4]), [None, Some(0), Some(1), None, Some(2), None]);
+    assert_eq!(found(&[4, 1, 2]), [None, None, None, None, Some(0), None]);
+    assert_eq!(found(&[2, 4, 1]), [None, None, Some(0), None, Some(1), None]);
+    assert_eq!(found(&[1, 2, 2, 1]), [None, Some(0), Some(1), None, None, None]);
+}
+
+#[test]
 fn a_table_that_is_none_says_where() {
     let mut packed = table([full(), bare()]);
     assert_eq!(rows(&packed[..63]), Err(Fault::Ragged { length: 63 }));
