@@ -27,11 +27,11 @@ use Rattle.cases.proofs.Build as Build
 use Rattle.cases.proofs.Build.{block, facing, powered, delay, support, shape, subtract}
 
 -- what a test gives, and what the book says
-record Case : Type 0 where
-  given : Column
-  wanted : Column
+pub record Case : Type 0 where
+  pub given : Column
+  pub wanted : Column
 
-passes : List Case → Bool
+unfoldable pub passes : List Case → Bool
 unfolding computing
 passes [] = true
 passes (c ∷ cs) = same (c .given) (c .wanted) && passes cs

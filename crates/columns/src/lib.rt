@@ -4,7 +4,7 @@ ghost use Prim.Native.Nat.{max};
 ghost use lib.ListN.{getD};
 ghost use Rattle.columns.specs.Column.{same};
 
-// The first index at which a test holds, or nothing.
+// The answer of a search: an index, or nothing.
 pub enum Found {
     At(usize),
     Nothing,

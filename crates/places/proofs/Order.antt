@@ -157,9 +157,9 @@ positions p q = along-x (compared (p .x) (q .x))
     along-x (is-same d) = along-y d (compared (p .y) (q .y))
     along-x (is-more l) = is-more (by-x l)
 
--- what does not come before q stands at q or after it
-pub at-or-after : (p q : Pos) → before p q ≡ false → (p ≡ q) ⊎ (before q p ≡ true)
-at-or-after p q h = go (positions p q)
+-- what does not come before q stands at q or past it
+pub at-or-past : (p q : Pos) → before p q ≡ false → (p ≡ q) ⊎ (before q p ≡ true)
+at-or-past p q h = go (positions p q)
   where
     go : Compared Before p q → (p ≡ q) ⊎ (before q p ≡ true)
     go (is-less l) = absurd (false≢true (sym h ∙ cases-before p q l))
@@ -179,5 +179,5 @@ not-before-trans p q r g h = go (before r p) refl
   where
     go : (b : Bool) → before r p ≡ b → before r p ≡ false
     go true e =
-        absurd (false≢true (sym h ∙ ⊎-elim (λ (same : q ≡ p). rw same e) (λ after. before-trans r p q e after) (at-or-after q p g)))
+        absurd (false≢true (sym h ∙ ⊎-elim (λ (same : q ≡ p). rw same e) (λ past. before-trans r p q e past) (at-or-past q p g)))
     go false e = e

@@ -82,9 +82,9 @@ module _ (t : Bytes) (a : Table t) where
       by-cases (decLt i j) (λ l. absurd (earlier-differs i j l h e))
       (λ m. by-cases (decLt j i) (λ l. absurd (earlier-differs j i l g (sym e))) (λ n. omega arith))
 
-  -- it is in order
+  -- its rows are in order
   pub rows-in-order : InOrder t
-  rows-in-order = record { ordered = λ i h. before-asym (posOf t i) (posOf t (i + 1)) (a .ordered i h) }
+  rows-in-order = record { not-before = λ i h. before-asym (posOf t i) (posOf t (i + 1)) (a .ordered i h) }
 
   -- the look-up finds row i at row i's position
   pub find-own : (i : ℕ) → i < rows t → find t (posOf t i) ≡ At i

@@ -1,4 +1,4 @@
--- Laws of the look-up, of which its callers cite `found-stands`, `same-find` and, on rows in order, `find-in-order`.
+-- Laws of the look-up.
 -- Assumes nothing.
 use mathlib.Core.Path.{_≡_, refl, sym, _∙_}
 use mathlib.Core.Bool.{Bool, true, false, not, true≢false}
@@ -14,7 +14,7 @@ use Rattle.columns.specs.First.{foundIf, firstFrom, onFound}
 use Rattle.columns.proofs.First.{IsFirst, first-at, at-first, first-none, none-first}
 use Rattle.places.specs.declared.Pos.{Pos}
 use Rattle.places.specs.Places.{samePos, before}
-use Rattle.places.proofs.Order.{samePos-true, samePos-refl, before-irrefl, at-or-after, not-before-trans}
+use Rattle.places.proofs.Order.{samePos-true, samePos-refl, before-irrefl, at-or-past, not-before-trans}
 use Rattle.world.specs.Rows.{rows, posOf}
 use Rattle.world.specs.Find.{standsAt, isAtOrPast, firstAtOrPast, ifStanding, find, InOrder, firstStanding}
 
@@ -26,20 +26,47 @@ not-before-itself q = go (before q q) refl
     go true e = absurd (before-irrefl q e)
     go false e = e
 
--- the row that is found at q stands there
-pub found-stands : (t : Bytes) (q : Pos) (i : ℕ) → find t q ≡ At i → (i < rows t) × (posOf t i ≡ q)
-unfolding find firstAtOrPast
-found-stands t q i h = go (firstAtOrPast t q) refl h
+elsewhere : (p q : Pos) → (p ≡ q → ⊥) → samePos p q ≡ false
+elsewhere p q h = go (samePos p q) refl
   where
-    here : (k : ℕ) → k < rows t → (b : Bool) → standsAt t q k ≡ b → foundIf b k Nothing ≡ At i → (i < rows t) × (posOf t i ≡ q)
-    here k l true s e = let same : k ≡ i = cc in (omega arith, rw same at (samePos-true (posOf t k) q s))
-    here k l false s e = let z : _≡_ {A = ℕ} 0 1 = cc in absurd (omega arith)
+    go : (b : Bool) → samePos p q ≡ b → samePos p q ≡ false
+    go true e = absurd (h (samePos-true p q e))
+    go false e = e
 
-    go : (x : Found) → firstAtOrPast t q ≡ x → ifStanding t q x ≡ At i → (i < rows t) × (posOf t i ≡ q)
-    go (At k) e f =
-        let first : IsFirst (isAtOrPast t q) 0 (rows t) k = first-at (isAtOrPast t q) (rows t) 0 k e in
-        here k (omega (arith, first .inside)) (standsAt t q k) refl f
-    go Nothing e f = let z : _≡_ {A = ℕ} 0 1 = cc in absurd (omega arith)
+before-elsewhere : (p q : Pos) → before p q ≡ true → samePos p q ≡ false
+before-elsewhere p q h = elsewhere p q (λ e. before-irrefl q (rw e at h))
+
+module _ (t : Bytes) (q : Pos) (i : ℕ) (h : find t q ≡ At i) where
+  -- the row that is found is the first at or past q, and stands at q
+  found : (IsFirst (isAtOrPast t q) 0 (rows t) i) × (standsAt t q i ≡ true)
+  unfolding find firstAtOrPast
+  found = go (firstAtOrPast t q) refl h
+    where
+      here : (k : ℕ) → IsFirst (isAtOrPast t q) 0 (rows t) k → (b : Bool) → standsAt t q k ≡ b → foundIf b k Nothing ≡ At i
+          → (IsFirst (isAtOrPast t q) 0 (rows t) i) × (standsAt t q i ≡ true)
+      here k first true s e = let same : k ≡ i = cc in (rw same at first, rw same at s)
+      here k first false s e = let z : _≡_ {A = ℕ} 0 1 = cc in absurd (omega arith)
+
+      go : (x : Found) → firstAtOrPast t q ≡ x → ifStanding t q x ≡ At i → (IsFirst (isAtOrPast t q) 0 (rows t) i) × (standsAt t q i ≡ true)
+      go (At k) e f = here k (first-at (isAtOrPast t q) (rows t) 0 k e) (standsAt t q k) refl f
+      go Nothing e f = let z : _≡_ {A = ℕ} 0 1 = cc in absurd (omega arith)
+
+  -- the row that is found at q stands there
+  pub found-stands : (i < rows t) × (posOf t i ≡ q)
+  found-stands = let (first, stands) = found in (omega (arith, first .inside), samePos-true (posOf t i) q stands)
+
+  -- and is the first of all that do: to stop early never answers another row
+  pub found-first : firstStanding t q ≡ At i
+  unfolding firstStanding
+  found-first =
+      let (first, stands) = found in
+      at-first (standsAt t q) (rows t) 0 i
+      (record {
+        from = omega arith;
+        inside = first .inside;
+        holds = stands;
+        earlier = λ j l m. before-elsewhere (posOf t j) q (not-false _ (first .earlier j l m));
+      })
 
 -- row k is found at q where it stands there and the rows ahead of it come before q
 pub find-first : (t : Bytes) (q : Pos) (k : ℕ) → k < rows t → posOf t k ≡ q → ((j : ℕ) → j < k → before (posOf t j) q ≡ true) → find t q ≡ At k
@@ -55,17 +82,30 @@ pub same-find : (t u : Bytes) → rows t ≡ rows u → ((i : ℕ) → posOf t i
 unfolding find firstAtOrPast
 same-find t u same-rows places q = λ x. onFound (λ i. foundIf (samePos (places i x) q) i Nothing) Nothing (firstFrom (λ i. not (before (places i x) q)) (same-rows x) 0)
 
--- ---- rows in order
-
-elsewhere : (p q : Pos) → (p ≡ q → ⊥) → samePos p q ≡ false
-elsewhere p q h = go (samePos p q) refl
+-- "its loop is to end at the first row at or past the position": what comes after such a row makes no difference
+pub find-ends : (t u : Bytes) (q : Pos) (k : ℕ) → k < rows t → k < rows u → isAtOrPast t q k ≡ true → ((i : ℕ) → i ≤ k → posOf t i ≡ posOf u i) → find t q ≡ find u q
+unfolding find firstAtOrPast
+find-ends t u q k g h past places = go (firstFrom (isAtOrPast t q) (rows t) 0) refl
   where
-    go : (b : Bool) → samePos p q ≡ b → samePos p q ≡ false
-    go true e = absurd (h (samePos-true p q e))
-    go false e = e
+    at : (j : ℕ) → IsFirst (isAtOrPast t q) 0 (rows t) j → j ≤ k → ifStanding t q (At j) ≡ find u q
+    at j first l =
+        let same : firstFrom (isAtOrPast u q) (rows u) 0 ≡ At j =
+        at-first (isAtOrPast u q) (rows u) 0 j
+        (record {
+          from = omega arith;
+          inside = omega arith;
+          holds = rw (← places j l) (first .holds);
+          earlier = λ i a b. rw (← places i (omega arith)) (first .earlier i a b);
+        }) in
+        rw (same, places j l)
 
-before-elsewhere : (p q : Pos) → before p q ≡ true → samePos p q ≡ false
-before-elsewhere p q h = elsewhere p q (λ e. before-irrefl q (rw e at h))
+    go : (x : Found) → firstFrom (isAtOrPast t q) (rows t) 0 ≡ x → ifStanding t q x ≡ find u q
+    go Nothing e = absurd (true≢false (sym past ∙ first-none (isAtOrPast t q) (rows t) 0 e k (omega arith) (omega arith)))
+    go (At j) e =
+        let first : IsFirst (isAtOrPast t q) 0 (rows t) j = first-at (isAtOrPast t q) (rows t) 0 j e in
+        by-cases (decLt k j) (λ l. absurd (true≢false (sym past ∙ first .earlier k (omega arith) l))) (λ l. at j first (omega arith))
+
+-- ---- rows in order
 
 module _ (t : Bytes) (order : InOrder t) where
   -- no row stands before an earlier one
@@ -75,7 +115,7 @@ module _ (t : Bytes) (order : InOrder t) where
       let next : i + k + 1 ≡ i + suc k = omega arith in
       not-before-trans (posOf t i) (posOf t (i + k)) (posOf t (i + suc k))
       (steps i k (omega arith))
-      (rw next at (order .ordered (i + k) (omega arith)))
+      (rw next at (order .not-before (i + k) (omega arith)))
 
   pub later-not-before : (i j : ℕ) → i ≤ j → j < rows t → before (posOf t j) (posOf t i) ≡ false
   later-not-before i j g h = let e : i + (j - i) ≡ j = omega arith in rw e at (steps i (j - i) (omega arith))
@@ -112,4 +152,11 @@ module _ (t : Bytes) (order : InOrder t) where
                   (λ same.
                   ⊎-elim (λ (at : posOf t k ≡ q). true≢false (sym (rw at (samePos-refl q)) ∙ s))
                   (λ past. true≢false (sym (rw same past) ∙ later-not-before k j l m))
-                  (at-or-after (posOf t k) q (not-true _ (first .holds))))
+                  (at-or-past (posOf t k) q (not-true _ (first .holds))))
+
+  -- nothing is found only where no row stands
+  pub find-none : (q : Pos) → find t q ≡ Nothing → (i : ℕ) → i < rows t → posOf t i ≡ q → ⊥
+  unfolding firstStanding
+  find-none q h i l e =
+      let none : samePos (posOf t i) q ≡ false = first-none (standsAt t q) (rows t) 0 (sym (find-in-order q) ∙ h) i (omega arith) (omega arith) in
+      true≢false (sym (rw e (samePos-refl q)) ∙ none)

@@ -38,9 +38,10 @@ find t q = ifStanding t q (firstAtOrPast t q)
 
 -- "ordered by x, then y, then z": no row stands before the preceding one
 pub record InOrder (t : Bytes) : Type 0 where
-  pub ordered : (i : ℕ) → i + 1 < rows t → before (posOf t (i + 1)) (posOf t i) ≡ false
+  pub not-before : (i : ℕ) → i + 1 < rows t → before (posOf t (i + 1)) (posOf t i) ≡ false
 
--- the look-up of document 01, of all rows: the first that stands at q. On rows in order `find` is the same (`find-in-order`)
+-- the first of all rows that stands at q: where no two stand at one position, as in a world of blocks, the row of `World::get`.
+-- On rows in order `find` is the same (`find-in-order`)
 unfoldable pub firstStanding : Bytes → Pos → Found
 firstStanding t q = firstFrom (standsAt t q) (rows t) 0
 

@@ -6,7 +6,7 @@ use places::Pos;
 ghost use mathlib.Core.Path.{_≡_};
 ghost use Rattle.world.specs.Find.{isAtOrPast, firstAtOrPast, ifStanding, find, findAt, kindAt};
 
-// Whether a row stands at a position or past it. Of the rows before it most have a smaller x, so that y and z are read of few.
+// Whether a row stands at a position or past it. Of a row with a smaller x, x alone is read.
 fn is_at_or_past(table: &[u8], row: usize, q: Pos) -> bool
     ensures { λ r. ⌜ r ≡ isAtOrPast (now (table .entry)) q row ⌝ }
 {
@@ -43,7 +43,7 @@ pub fn if_standing(table: &[u8], q: Pos, first: Found) -> Found
     Found::Nothing
 }
 
-// The row that stands at a position. Where the rows are out of order, the first at or past the position alone can be it.
+// The first row at or past a position, if it stands there: on rows in order, the row that stands there.
 pub fn find(table: &[u8], q: Pos) -> Found
     ensures { λ r. ⌜ r ≡ find (now (table .entry)) q ⌝ }
 {
