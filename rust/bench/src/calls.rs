@@ -1,11 +1,14 @@
 //! The tables and the calls that are timed.
 
+use std::collections::BTreeSet;
+
 use differential::compare::Answers;
 use differential::generate::{self, BENCH_PROFILE, Case};
 use differential::oracle::{Oracle, pos};
 use differential::probe::{Probe, probe_find};
 use differential::redstone::{Call, Input, STATE, device_outputs, fresh_devices};
 use differential::table::Position;
+use differential::world::WorldQuery;
 use original::electrical::solve_instantaneous;
 use original::sim::RedstoneTickSimulator;
 use redstone::{Columns, Kind, Row, STATE_BYTES, fresh, settle, switch, tick};
@@ -33,6 +36,29 @@ fn switched(rows: &[Row]) -> Position {
     lever.or(rows.first()).map_or([0; 3], Row::position)
 }
 
+/// The rows' own positions, or one where there are no rows.
+fn standing(rows: &[Row]) -> Vec<Position> {
+    at_least_one(rows.iter().map(Row::position).collect())
+}
+
+/// The first empty cell to the South of each row, which in the table's order is after it.
+fn empty(rows: &[Row]) -> Vec<Position> {
+    let own: BTreeSet<_> = rows.iter().map(Row::position).collect();
+    let to_the_south = |row: &Row| {
+        let mut at = row.position();
+        while own.contains(&at) {
+            at[2] += 1;
+        }
+        at
+    };
+    at_least_one(rows.iter().map(to_the_south).collect())
+}
+
+fn at_least_one(mut positions: Vec<Position>) -> Vec<Position> {
+    positions.extend(positions.is_empty().then_some([0; 3]));
+    positions
+}
+
 pub fn assert_sides_agree(case: &Case) {
     let oracle = Oracle::new(case);
     let rows = oracle.rows.len();
@@ -46,6 +72,10 @@ pub fn assert_sides_agree(case: &Case) {
     ask(Input::Settle { devices: fresh_devices(&oracle), limit: 128 });
     ask(Input::Tick { state: state.clone(), tick: 0, ticks: 2 });
     ask(Input::Switch { state, at: switched(&oracle.rows), powered: true });
+    for at in [standing(&oracle.rows), empty(&oracle.rows)].concat() {
+        let find = WorldQuery::Find(at);
+        assert_eq!(oracle.answer(&find), Probe(case).answer(&find), "{} at {at:?}", case.sort);
+    }
 }
 
 /// The columns that the proved calls write, run after run.
@@ -62,14 +92,15 @@ impl Levels {
     }
 }
 
-pub fn medians_of_each_call(case: &Case) -> [(&'static str, Medians); 5] {
+pub fn medians_of_each_call(case: &Case) -> [(&'static str, Medians); 6] {
     let oracle = Oracle::new(case);
     [
         ("settle", of_settle(&oracle)),
         ("fresh", of_fresh(&oracle)),
         ("tick", of_tick(&oracle)),
         ("switch", of_switch(&oracle)),
-        ("look-up", of_look_up(&oracle)),
+        ("look-up", of_look_up(&oracle, &standing(&oracle.rows))),
+        ("look-up, nothing there", of_look_up(&oracle, &empty(&oracle.rows))),
     ]
 }
 
@@ -132,11 +163,9 @@ fn of_switch(oracle: &Oracle) -> Medians {
     )
 }
 
-fn of_look_up(oracle: &Oracle) -> Medians {
+fn of_look_up(oracle: &Oracle, positions: &[Position]) -> Medians {
     let table = &oracle.case.table;
     let world = oracle.world();
-    let mut positions: Vec<_> = oracle.rows.iter().map(Row::position).collect();
-    positions.extend(oracle.rows.is_empty().then_some([0; 3]));
     let (mut originals, mut proved) = (positions.iter().cycle(), positions.iter().cycle());
     medians(
         || (),

@@ -56,7 +56,9 @@ had left. Both sides gave the same answers before they were timed, and stood at 
 - tick: one tick after the other, beside `advance_tick`. The proved call keeps no levels between calls, so it settles
   before each tick and after it.
 - switch: on and off by turns, beside `set_powered`.
-- look-up: each row's position in turn, beside `World::get`.";
+- look-up: each row's position in turn, beside `World::get`.
+- look-up, nothing there: the first empty cell to the South of each row in turn. The proved search ends at the first row
+  past it.";
 
 #[cfg(not(no_original))]
 const NOTES_ON_MONTH: &str = "\

@@ -74,7 +74,7 @@ pub fn compare_case(case: &Case, actual: &dyn Answers<PortQuery>, tally: &mut Ta
 const MOST_ROWS_AROUND: usize = 40;
 
 /// Every port at each row of an accepted table and at a position beside it.
-fn queries(case: &Case) -> Vec<PortQuery> {
+pub fn queries(case: &Case) -> Vec<PortQuery> {
     if refusals::check(&case.profile, &case.table).is_err() {
         return Vec::new();
     }

@@ -1,5 +1,5 @@
 //! Holds the proved functions of the static libraries `probe` and `redstone`, and the programs `settle` and `month`,
-//! against the original Rust.
+//! against the original Rust, and look-ups on rows in any order against document 02.
 
 pub mod checks;
 pub mod compare;
@@ -7,8 +7,10 @@ pub mod compare;
 pub mod connectivity;
 pub mod damage;
 pub mod differences;
+pub mod disorder;
 pub mod generate;
 pub mod lent;
+pub mod look_up;
 #[cfg(not(no_original))]
 pub mod month;
 #[cfg(not(no_original))]

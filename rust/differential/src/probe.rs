@@ -58,6 +58,9 @@ c_functions! {
     fn redstone_switch(profile: &[u8], table: &mut [u8], state: &[u8], x: i32, y: i32, z: i32, powered: u32, signal: &mut [u8], weak: &mut [u8], strong: &mut [u8]) -> u32;
 }
 
+/// What `probe_find` answers where it finds no row.
+pub const NOTHING_THERE: u64 = u64::MAX;
+
 /// The number with which the C call under a call of the editor's crate answered.
 pub fn answered(answer: Result<u32, redstone::Refusal>) -> u32 {
     answer.unwrap_or_else(|refusal| Refusal::from(refusal).code())

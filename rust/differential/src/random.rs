@@ -58,10 +58,19 @@ impl Random {
 
     /// Keeps at most `most` entries of a list, chosen at random.
     pub fn keep<T>(&mut self, list: &mut Vec<T>, most: usize) {
+        self.draw(list, most);
+        list.truncate(most);
+    }
+
+    pub fn shuffle<T>(&mut self, list: &mut [T]) {
+        self.draw(list, list.len());
+    }
+
+    /// Fills the first `most` places of a list with entries of it, chosen at random.
+    fn draw<T>(&mut self, list: &mut [T], most: usize) {
         for kept in 0..most.min(list.len()) {
             let other = kept + self.below(list.len() - kept);
             list.swap(kept, other);
         }
-        list.truncate(most);
     }
 }

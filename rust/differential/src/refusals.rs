@@ -2,7 +2,7 @@
 
 use redstone::Kind;
 
-use crate::table::Position;
+use crate::table::{Position, coordinates};
 
 const ROW_BYTES: usize = 32;
 const STATE_BYTES: usize = 16;
@@ -84,10 +84,6 @@ fn rows(table: &[u8]) -> impl Iterator<Item = &[u8]> {
 
 fn position(table: &[u8], row: usize) -> Position {
     coordinates(&table[ROW_BYTES * row..])
-}
-
-fn coordinates(row: &[u8]) -> Position {
-    [0, 4, 8].map(|at| i32::from_le_bytes([row[at], row[at + 1], row[at + 2], row[at + 3]]))
 }
 
 fn good_profile(profile: &[u8]) -> bool {

@@ -3,6 +3,7 @@
 use std::cell::Cell;
 use std::collections::BTreeSet;
 use std::env;
+use std::ops::Range;
 use std::panic::{UnwindSafe, catch_unwind, set_hook, take_hook};
 use std::sync::Once;
 
@@ -12,19 +13,24 @@ use crate::generate::{self, Case};
 use crate::probe::Probe;
 use crate::random::Random;
 
-/// The accepted tables of this many seeds or of DIFF_TABLES, from 0 or DIFF_SEED on.
+/// This many seeds or DIFF_TABLES, from 0 or DIFF_SEED on.
+pub fn seeds(tables: u64) -> Range<u64> {
+    from_the_first(setting("DIFF_TABLES", tables))
+}
+
+/// The accepted tables of these seeds.
 pub fn good_cases(tables: u64) -> impl Iterator<Item = Case> {
-    cases(setting("DIFF_TABLES", tables))
+    seeds(tables).map(generate::case)
 }
 
 /// The same, where fewer than this many would not do.
 pub fn at_least_good_cases(tables: u64) -> impl Iterator<Item = Case> {
-    cases(setting("DIFF_TABLES", tables).max(tables))
+    from_the_first(setting("DIFF_TABLES", tables).max(tables)).map(generate::case)
 }
 
-fn cases(tables: u64) -> impl Iterator<Item = Case> {
+fn from_the_first(tables: u64) -> Range<u64> {
     let first = setting("DIFF_SEED", 0);
-    (first..first + tables).map(generate::case)
+    first..first + tables
 }
 
 pub fn setting(name: &str, otherwise: u64) -> u64 {

@@ -1,6 +1,6 @@
 //! The rows of packed tables, and positions.
 
-use redstone::Row;
+use redstone::{ROW_BYTES, Row};
 
 /// x, y, z.
 pub type Position = [i32; 3];
@@ -11,6 +11,16 @@ pub const HORIZONTAL: [Position; 4] = [[0, 0, -1], [1, 0, 0], [0, 0, 1], [-1, 0,
 /// The rows of an accepted table.
 pub fn rows(table: &[u8]) -> Vec<Row> {
     redstone::rows(table).expect("an accepted table")
+}
+
+/// The positions of the rows that a table has whole, in any order.
+pub fn positions(table: &[u8]) -> impl Iterator<Item = Position> {
+    table.chunks_exact(ROW_BYTES).map(coordinates)
+}
+
+/// The position at the front of a row's bytes.
+pub fn coordinates(row: &[u8]) -> Position {
+    [0, 4, 8].map(|at| i32::from_le_bytes([row[at], row[at + 1], row[at + 2], row[at + 3]]))
 }
 
 /// The position a step away.

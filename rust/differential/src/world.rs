@@ -12,8 +12,8 @@ use crate::generate::Case;
 use crate::lent::Lent;
 use crate::oracle::{KINDS, Oracle, connection_number, facing, facing_number, pos};
 use crate::probe::{
-    Probe, answered, probe_find, probe_horizontal_offset, probe_kind_at, probe_offset, probe_opposite,
-    probe_properties, probe_shape_of_name, probe_support_issues, probe_traits,
+    NOTHING_THERE, Probe, answered, probe_find, probe_horizontal_offset, probe_kind_at, probe_offset,
+    probe_opposite, probe_properties, probe_shape_of_name, probe_support_issues, probe_traits,
 };
 use crate::refusals::{self, Refusal};
 use crate::table::Position;
@@ -72,7 +72,6 @@ impl Query for WorldQuery {
     }
 }
 
-const NOTHING_THERE: u64 = u64::MAX;
 const NO_OFFSET: i32 = 2;
 
 impl Answers<WorldQuery> for Probe<'_> {
