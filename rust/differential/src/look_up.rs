@@ -9,7 +9,7 @@ use std::collections::BTreeSet;
 
 use redstone::ROW_BYTES;
 
-use crate::compare::{Answer, Answers, Query};
+use crate::compare::{Answer, Answers, Query, same};
 use crate::generate::Case;
 use crate::probe::{
     NOTHING_THERE, Probe, probe_component_connects, probe_find, probe_infer, probe_kind_at, probe_port,
@@ -69,7 +69,10 @@ impl Answers<LookUp> for Probe<'_> {
     fn answer(&self, query: &LookUp) -> Answer {
         let Case { profile, table, .. } = self.0;
         match *query {
-            LookUp::Find([x, y, z]) => probe_find(table, x, y, z).into(),
+            LookUp::Find(at @ [x, y, z]) => {
+                let editors = redstone::find(table, at).map_or(NOTHING_THERE, |row| row as u64);
+                same([probe_find(table, x, y, z), editors].map(Answer::from))
+            }
             LookUp::KindAt([x, y, z]) => probe_kind_at(table, x, y, z).into(),
             LookUp::Port([x, y, z], port) => probe_port(table, x, y, z, port).into(),
             LookUp::PortCoordinate([x, y, z], port, axis) => {

@@ -43,9 +43,9 @@ pub fn rows(table: &[u8]) -> Result<Vec<Row>, Fault> {
     packed.iter().enumerate().map(read).collect()
 }
 
-/// The number of the row at x, y, z.
+/// The number of the first row at or past x, y, z, by x, then y, then z, if it stands there.
 ///
-/// Of rows out of order, which every call refuses, it is the first at or past x, y, z, if that one stands there.
+/// In a table that the calls accept it is the row at x, y, z. Bytes after the last whole row are not read.
 #[must_use]
 pub fn find(table: &[u8], position: [i32; 3]) -> Option<usize> {
     let (packed, _) = table.as_chunks::<ROW_BYTES>();

@@ -189,16 +189,29 @@ fn a_table_is_read_and_looked_up() {
     assert_eq!(find(&[], [0; 3]), None);
 }
 
+fn packed(positions: &[[i32; 3]]) -> Vec<u8> {
+    positions.iter().flat_map(|position| Row::new(Kind::Solid, *position).bytes()).collect()
+}
+
 #[test]
-fn of_rows_out_of_order_the_first_at_or_past_the_position_is_looked_at() {
-    let strip = |places: &[i32]| -> Vec<u8> {
-        places.iter().flat_map(|x| Row::new(Kind::Solid, [*x, 1, 0]).bytes()).collect()
+fn a_look_up_ends_at_the_first_row_at_or_past_the_position() {
+    let found = |places: &[i32]| {
+        let rows: Vec<_> = places.iter().map(|x| [*x, 1, 0]).collect();
+        [0, 1, 2, 3, 4, 5].map(|x| find(&packed(&rows), [x, 1, 0]))
     };
-    let found = |places: &[i32]| [0, 1, 2, 3, 4, 5].map(|x| find(&strip(places), [x, 1, 0]));
     assert_eq!(found(&[1, 2, 4]), [None, Some(0), Some(1), None, Some(2), None]);
     assert_eq!(found(&[4, 1, 2]), [None, None, None, None, Some(0), None]);
     assert_eq!(found(&[2, 4, 1]), [None, None, Some(0), None, Some(1), None]);
-    assert_eq!(found(&[1, 2, 2, 1]), [None, Some(0), Some(1), None, None, None]);
+    assert_eq!(found(&[1, 2, 2, 4]), [None, Some(0), Some(1), None, Some(3), None]);
+    assert_eq!(found(&[2, 2]), [None, None, Some(0), None, None, None]);
+}
+
+#[test]
+fn a_look_up_orders_by_x_then_y_then_z() {
+    for positions in [[[0, 1, 0], [1, 0, 0]], [[0, 0, 1], [0, 1, 0]], [[-1, 1, 0], [1, 1, 0]]] {
+        assert_eq!(positions.map(|at| find(&packed(&positions), at)), [Some(0), Some(1)], "{positions:?}");
+    }
+    assert_eq!(find(&[0; ROW_BYTES - 1], [0; 3]), None);
 }
 
 #[test]
