@@ -2,13 +2,12 @@
 -- Assumes nothing.
 use mathlib.Core.Bool.{Bool, true, _&&_}
 use mathlib.Core.List.{List, [], _∷_, _++_}
-use Prim.Native.Nat.{ℕ, zero, suc, _+_, _*_, _-_}
+use Prim.Native.Nat.{ℕ, zero, suc, _+_, _*_}
 use lib.ListN.{getD, take, drop, replicate}
 use lib.Dec.{T}
 use lib.IntN.{pos, negsuc}
 use Rattle.columns.specs.Column.{Bytes, Column, same}
 use Rattle.columns.specs.Ascii.{ascii}
-use Rattle.network.specs.Network.{State}
 use Rattle.blocks.specs.Kind.{Solid, RedstoneWire, RedstoneTorch, Repeater, Comparator, Lever, RedstoneBlock}
 use Rattle.blocks.specs.Profile.{benchProfile}
 use Rattle.places.specs.Places.{East, cell}
@@ -26,7 +25,7 @@ use Rattle.cases.proofs.Computing.{computing}
 use Rattle.cases.proofs.Build as Build
 use Rattle.cases.proofs.Build.{block, facing, powered, delay, support, shape, subtract}
 
--- what a test gives, and what the book says
+-- what a test gives, and what it is to give
 pub record Case : Type 0 where
   pub given : Column
   pub wanted : Column

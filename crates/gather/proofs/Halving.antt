@@ -1,4 +1,4 @@
--- Laws of a search by halves, for the first index below n at which a test holds, of a test that holds on from there.
+-- Laws of a search by halves for the first index below n at which a test holds, where the test also holds at every later index.
 -- Assumes nothing.
 use mathlib.Core.Path.{_≡_, refl, sym, _∙_}
 use mathlib.Core.Bool.{Bool, true, false, false≢true}
@@ -8,7 +8,7 @@ use Rattle.columns.specs.declared.Found.the-variants.{At, Nothing}
 use Rattle.columns.specs.First.{firstFrom}
 use Rattle.columns.proofs.First.{at-first, none-first}
 
--- the first index is one from lo to hi, or n
+-- the test fails below lo and holds from hi on
 pub record Between (f : ℕ → Bool) (n lo hi : ℕ) : Type 0 where
   pub order : lo ≤ hi
   pub inside : hi ≤ n

@@ -83,7 +83,7 @@ guarded false edge (At j) h = go (ltb j noRow) (edge j) refl
 
 -- ---- the columns of slots
 
-module _ (p t : Bytes) (a : Table t) (i : ℕ) (l : i < rows t) where
+module _ (p t : Bytes) (i : ℕ) (l : i < rows t) where
   feeder-row : (k : ℕ) → k < 12 → row (feeders p t (rows t * 12)) (i * 12 + k) ≡ slotOf (λ j. transmits p t j i) (find t (aroundAt (posOf t i) k))
   unfolding feederAt
   feeder-row k h =
@@ -111,10 +111,10 @@ module _ (p t : Bytes) (a : Table t) (s : Column) (sized : length s ≡ rows t) 
   arriving-feeders =
       arriving-slots t a (transmits p t) i 12 (aroundAt (posOf t i)) (λ j h. transmits-near (armOf p t) p t a j i h l) (λ j. row s j - 1) (rw none-level)
       ∙ top-less 12 _
-      ∙ ap (λ x. x - 1) (top-same 12 _ _ (λ k h. ap (row s) (sym (feeder-row p t a i l k h))))
+      ∙ ap (λ x. x - 1) (top-same 12 _ _ (λ k h. ap (row s) (sym (feeder-row p t i l k h))))
 
   -- "dust reaches the block below and along its arms"
   pub arriving-unders : arriving (rows t) (dustToWeak p t) (row s) i ≡ top 5 (λ k. row s (row (unders p t (rows t * 5)) (i * 5 + k)))
   arriving-unders =
       arriving-slots t a (dustToWeak p t) i 5 (overAt (posOf t i)) (λ j h. dustToWeak-near (armOf p t) p t a j i h) (row s) none-level
-      ∙ top-same 5 _ _ (λ k h. ap (row s) (sym (dustToWeak-row p t a i l k h)))
+      ∙ top-same 5 _ _ (λ k h. ap (row s) (sym (dustToWeak-row p t i l k h)))

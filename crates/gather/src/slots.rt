@@ -10,7 +10,6 @@ use wire::transfer::transmits;
 use world::row::kind_of;
 use world::row::pos_of;
 ghost use mathlib.Core.Path.{_≡_};
-ghost use Prim.Native.Nat.{_<_};
 ghost use lib.ListN.{length};
 ghost use Rattle.world.specs.Find.{InOrder};
 ghost use Rattle.gather.specs.Slots.{aroundFacing, aroundHeight, atHeight, aroundAt, overAt, entryOf, feederAt, underAt, feeders, unders};

@@ -55,7 +55,7 @@ module _ (t : Bytes) (q : Pos) (i : ℕ) (h : find t q ≡ At i) where
   pub found-stands : (i < rows t) × (posOf t i ≡ q)
   found-stands = let (first, stands) = found in (omega (arith, first .inside), samePos-true (posOf t i) q stands)
 
-  -- and is the first of all that do: to stop early never answers another row
+  -- and is the first of all that do: the early stop never gives a different row
   pub found-first : firstStanding t q ≡ At i
   unfolding firstStanding
   found-first =
@@ -117,7 +117,7 @@ module _ (t : Bytes) (order : InOrder t) where
       (steps i k (omega arith))
       (rw next at (order .not-before (i + k) (omega arith)))
 
-  pub later-not-before : (i j : ℕ) → i ≤ j → j < rows t → before (posOf t j) (posOf t i) ≡ false
+  later-not-before : (i j : ℕ) → i ≤ j → j < rows t → before (posOf t j) (posOf t i) ≡ false
   later-not-before i j g h = let e : i + (j - i) ≡ j = omega arith in rw e at (steps i (j - i) (omega arith))
 
   -- a row at or past q is followed by such rows alone

@@ -8,7 +8,7 @@ use Rattle.places.specs.declared.Pos.{Pos}
 use Rattle.places.specs.declared.Place.{Place}
 use Rattle.places.specs.declared.Place.the-variants.{There, Nowhere}
 use Rattle.columns.specs.declared.Found.{Found}
-use Rattle.columns.specs.declared.Found.the-variants.{At, Nothing}
+use Rattle.columns.specs.declared.Found.the-variants.{Nothing}
 use Rattle.columns.specs.Column.{Bytes}
 use Rattle.columns.specs.First.{foundIf, firstFrom, onFound}
 use Rattle.places.specs.Places.{samePos, before}

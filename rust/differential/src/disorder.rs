@@ -35,7 +35,7 @@ const ORDERS: [(usize, Order); 8] = [
 /// The case of a seed: the rows of an accepted table, or numbered ones, in some order. Now and then the last is cut
 /// short.
 pub fn case(seed: u64) -> Case {
-    let random = &mut Random::new(seed);
+    let random = &mut Random::new(!seed);
     let mut case = if random.percent(50) { generate::case(seed) } else { numbered(random) };
     let (sort, order) = random.weighted(&ORDERS);
     let (rows, _) = case.table.as_chunks_mut();
@@ -90,9 +90,8 @@ fn any_row(random: &mut Random, rows: &[Packed]) -> usize {
 fn positions_repeated(random: &mut Random, rows: &mut [Packed]) {
     for row in 0..rows.len() {
         if random.percent(20) {
-            let other = any_row(random, rows);
-            let position = rows[other];
-            rows[row][..12].copy_from_slice(&position[..12]);
+            let other = rows[any_row(random, rows)];
+            rows[row][..12].copy_from_slice(&other[..12]);
         }
     }
     rows.sort_by_key(|row| coordinates(row));

@@ -5,6 +5,7 @@ mod misreadings;
 mod original;
 mod queries;
 
+use std::cell::OnceCell;
 use std::collections::BTreeSet;
 
 use redstone::ROW_BYTES;
@@ -17,9 +18,9 @@ use crate::probe::{
 };
 use crate::table::{Position, positions};
 
-pub use misreadings::{MISREADINGS, MISREADINGS_AT_THE_ENDS, Misread, Misreading};
+pub use misreadings::{MISREADINGS, MISREADINGS_AT_THE_ENDS, Misreading};
 #[cfg(not(no_original))]
-pub use original::{BY_POSITION, compare_with_original};
+pub use original::{BY_POSITION, compare_with_original, has_world};
 pub use queries::{queries, small_queries};
 
 /// The number of the row found at a position.
@@ -93,24 +94,29 @@ impl Answers<LookUp> for Probe<'_> {
 pub struct Reading<'a> {
     case: &'a Case,
     find: Find,
-    found: Case,
+    rows_found: OnceCell<Case>,
 }
 
 impl<'a> Reading<'a> {
     pub fn new(case: &'a Case, find: Find) -> Self {
-        let own: BTreeSet<_> = positions(&case.table).collect();
-        let rows = own.into_iter().filter_map(|at| found(&case.table, at, find));
-        let table = rows.flatten().copied().collect();
-        Self { case, find, found: Case { table, ..case.clone() } }
+        Self { case, find, rows_found: OnceCell::new() }
     }
 
-    fn found(&self, at: Position) -> Option<&[u8]> {
-        found(&self.case.table, at, self.find)
+    fn rows_found(&self) -> &Case {
+        self.rows_found.get_or_init(|| rows_found(self.case, self.find))
     }
 }
 
+/// The case with the rows that are found at their own positions, in order.
+fn rows_found(case: &Case, find: Find) -> Case {
+    let own: BTreeSet<_> = positions(&case.table).collect();
+    let rows = own.into_iter().filter_map(|at| row_found(&case.table, at, find));
+    let table = rows.flatten().copied().collect();
+    Case { table, ..case.clone() }
+}
+
 /// The bytes of the row found.
-fn found(table: &[u8], at: Position, find: Find) -> Option<&[u8]> {
+fn row_found(table: &[u8], at: Position, find: Find) -> Option<&[u8]> {
     find(table, at).and_then(|row| table.chunks(ROW_BYTES).nth(row))
 }
 
@@ -120,8 +126,8 @@ impl Answers<LookUp> for Reading<'_> {
             LookUp::Find(at) => {
                 (self.find)(&self.case.table, at).map_or(NOTHING_THERE, |row| row as u64).into()
             }
-            LookUp::KindAt(at) => self.found(at).map_or(0, |row| row[12]).into(),
-            _ => Probe(&self.found).answer(query),
+            LookUp::KindAt(at) => row_found(&self.case.table, at, self.find).map_or(0, |row| row[12]).into(),
+            _ => Probe(self.rows_found()).answer(query),
         }
     }
 }

@@ -2,10 +2,7 @@
 
 use redstone::{MOST_ROWS, ROW_BYTES};
 
-use super::{Find, LookUp, Reading, first_at_or_past, first_that_stands};
-use crate::compare::{Answer, Answers, Query};
-use crate::generate::Case;
-use crate::probe::Probe;
+use super::{Find, first_at_or_past, first_that_stands};
 use crate::table::{Position, coordinates, positions};
 
 pub struct Misreading {
@@ -15,7 +12,7 @@ pub struct Misreading {
     pub in_order: bool,
 }
 
-pub const MISREADINGS: [Misreading; 16] = [
+pub const MISREADINGS: [Misreading; 17] = [
     Misreading { what: "the search runs on past that row", find: first_that_stands, in_order: false },
     Misreading {
         what: "the row after that one is looked at, too",
@@ -38,6 +35,14 @@ pub const MISREADINGS: [Misreading; 16] = [
     Misreading {
         what: "the row need not stand at the position",
         find: |table, position| positions(table).position(|at| at >= position),
+        in_order: true,
+    },
+    Misreading {
+        what: "where every row is before the position the first is found",
+        find: |table, position| {
+            let all_before = positions(table).all(|at| at < position);
+            if all_before { positions(table).next().map(|_| 0) } else { first_at_or_past(table, position) }
+        },
         in_order: true,
     },
     Misreading {
@@ -138,27 +143,4 @@ fn ended_by(table: &[u8], position: Position, ends: impl Fn(Position) -> bool) -
 /// The same where it is the first row at or past the position by another order.
 fn ended_by_order<K: Ord>(table: &[u8], position: Position, key: fn(Position) -> K) -> Option<usize> {
     ended_by(table, position, |at| key(at) >= key(position))
-}
-
-/// The proved side, with one function's answers by a misreading.
-pub struct Misread<'a> {
-    case: &'a Case,
-    function: &'a str,
-    reading: Reading<'a>,
-}
-
-impl<'a> Misread<'a> {
-    pub fn new(case: &'a Case, function: &'a str, misreading: &Misreading) -> Self {
-        Self { case, function, reading: Reading::new(case, misreading.find) }
-    }
-}
-
-impl Answers<LookUp> for Misread<'_> {
-    fn answer(&self, query: &LookUp) -> Answer {
-        if query.function() == self.function {
-            self.reading.answer(query)
-        } else {
-            Probe(self.case).answer(query)
-        }
-    }
 }

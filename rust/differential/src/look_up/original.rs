@@ -1,6 +1,6 @@
 //! The original's answers on rows in any order: those on a world of the rows found.
 
-use super::{Find, Reading, first_that_stands};
+use super::{Find, first_that_stands, rows_found};
 use crate::compare::{Answers, Compared, Query, Tally, compare};
 use crate::generate::Case;
 use crate::oracle::Oracle;
@@ -21,12 +21,21 @@ pub const BY_POSITION: [&str; 10] = [
     "dust_transfer",
 ];
 
-/// Asks both sides for these functions, as they are asked of the same rows in order if those are accepted.
+/// The same rows in order, one at each position.
+fn in_order(case: &Case) -> Case {
+    rows_found(case, first_that_stands)
+}
+
+/// Whether the original has a world of the rows: they are accepted once they are in order.
+pub fn has_world(case: &Case) -> bool {
+    let Case { profile, table, .. } = in_order(case);
+    refusals::check(&profile, &table).is_ok()
+}
+
+/// Puts to both sides what is asked of the same rows in order, for these functions.
 pub fn compare_with_original(case: &Case, find: Find, functions: &[&str], tally: &mut Tally) -> Compared {
-    let [in_order, found] = [first_that_stands, find].map(|find| Reading::new(case, find).found);
-    if refusals::check(&in_order.profile, &in_order.table).is_err() {
-        return Ok(());
-    }
+    let in_order = in_order(case);
+    let found = rows_found(case, find);
     let sides = (Oracle::new(&found), Probe(case));
     compare_some(world::queries(&in_order), functions, &sides, tally)?;
     compare_some(connectivity::queries(&in_order), functions, &sides, tally)?;

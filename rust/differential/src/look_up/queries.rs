@@ -7,10 +7,11 @@ use crate::generate::Case;
 use crate::random::Random;
 use crate::table::{Position, coordinates, positions};
 
-/// Of a larger table the positions of this many rows are looked up, taken at random, and what is asked of devices and
-/// dust is asked of fewer.
+/// Of a larger table this many rows are looked up, taken at random.
 const MOST_ROWS_LOOKED_UP: usize = 16;
+/// So many of them are asked for ports and arms.
 const MOST_DEVICES: usize = 5;
+/// So many pairs of dust are asked for a transfer.
 const MOST_PAIRS: usize = 20;
 
 const PORTS: u32 = 6;
@@ -47,8 +48,8 @@ fn looked_up(at: Position) -> [LookUp; 2] {
     [LookUp::Find(at), LookUp::KindAt(at)]
 }
 
-/// Rows' own positions, those one off on each axis, so also before the first row and past the last, the ends of all
-/// positions, some made of several rows' coordinates, some at random, and that of bytes left over.
+/// Positions of rows and the six beside each, among them those of the first, last, least and largest row; both ends of
+/// all positions; some mixed from several rows' coordinates; some at random; and that of bytes left over.
 fn asked(random: &mut Random, case: &Case, rows: &[Position]) -> Vec<Position> {
     let ends = [rows.first(), rows.last(), rows.iter().min(), rows.iter().max()];
     let own = some(random, rows, MOST_ROWS_LOOKED_UP).into_iter().chain(ends.into_iter().flatten().copied());
@@ -64,7 +65,7 @@ fn asked(random: &mut Random, case: &Case, rows: &[Position]) -> Vec<Position> {
 /// The step to the position itself, and those to its neighbours.
 const STEPS: [Position; 7] = [[0, 0, 0], [1, 0, 0], [-1, 0, 0], [0, 1, 0], [0, -1, 0], [0, 0, 1], [0, 0, -1]];
 
-/// A position a step away, past an end of 32 bits at the other one.
+/// A position a step away. Past an end of 32 bits it goes on at the other end.
 fn beside(at: Position, step: Position) -> Position {
     [0, 1, 2].map(|axis| at[axis].wrapping_add(step[axis]))
 }

@@ -1,8 +1,7 @@
--- `gather::halves::first_by_halves` meets its contract. The loop's invariant: the first row at or past the position is one from lo on, and none after hi. Assumes nothing.
+-- `gather::halves::first_by_halves` meets its contract. The loop's invariant: the rows below lo come before the position, and those from hi on do not. Assumes nothing.
 use borrow.Author.Needs.{needs}
-use mathlib.Core.Path.{_≡_, sym, _∙_}
-use mathlib.Core.Bool.{true, false}
-use Prim.Native.Nat.{_+_, _-_, _/_}
+use mathlib.Core.Path.{sym}
+use Prim.Native.Nat.{_-_}
 use native.Mathlib.Omega.{arith}
 use Rattle.world.specs.Rows.{rows}
 use Rattle.world.specs.Find.{isAtOrPast, firstAtOrPast}

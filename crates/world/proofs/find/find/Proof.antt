@@ -1,6 +1,5 @@
 -- `world::find::find` meets its contract. Assumes nothing.
 use borrow.Author.Needs.{needs}
-use mathlib.Core.Path.{_∙_}
 use Rattle.world.specs.Find.{find}
 use Rattle.world.proofs.find.find.Statement.{statement}
 use Rattle.world.proofs.find.find.Tie as tie

@@ -1,6 +1,5 @@
 -- `world::find::if_standing` meets its contract, by what the search found. Assumes nothing.
 use borrow.Author.Needs.{needs}
-use mathlib.Core.Path.{sym, _∙_}
 use Rattle.world.proofs.find.if_standing.Statement.{statement}
 use Rattle.world.proofs.find.if_standing.Tie as tie
 
