@@ -98,13 +98,23 @@ fn each_of<'a>(
     misreadings.iter().flat_map(|misreading| functions.iter().map(move |function| (misreading, *function)))
 }
 
+/// The misreading is reported on the tables, and on those of them in order if it shows there.
+fn assert_reported<I: Iterator<Item = Case>>(
+    cases: impl Fn() -> I,
+    queries: Queries,
+    function: &'static str,
+    misreading: &Misreading,
+) {
+    let shown = reported(cases(), queries, function, misreading);
+    assert_eq!(shown, Some(function), "{}", misreading.what);
+    let shown = reported(cases().filter(in_order), queries, function, misreading);
+    assert_eq!(shown, misreading.in_order.then_some(function), "in order: {}", misreading.what);
+}
+
 #[test]
 fn misreadings_are_reported_on_small_tables() {
     for (misreading, function) in each_of(&MISREADINGS, &LOOK_UPS) {
-        let shown = reported(small_cases(), small_queries, function, misreading);
-        assert_eq!(shown, Some(function), "{}", misreading.what);
-        let shown = reported(small_cases().filter(in_order), small_queries, function, misreading);
-        assert_eq!(shown, misreading.in_order.then_some(function), "in order: {}", misreading.what);
+        assert_reported(small_cases, small_queries, function, misreading);
     }
 }
 
@@ -112,10 +122,7 @@ fn misreadings_are_reported_on_small_tables() {
 fn misreadings_are_reported_on_tables_in_any_order() {
     let of_look_ups = each_of(&MISREADINGS, &LOOK_UPS).chain(each_of(&MISREADINGS_AT_THE_ENDS, &LOOK_UPS));
     for (misreading, function) in of_look_ups {
-        let shown = reported(misread_cases(), queries, function, misreading);
-        assert_eq!(shown, Some(function), "{}", misreading.what);
-        let shown = reported(misread_cases().filter(in_order), queries, function, misreading);
-        assert_eq!(shown, misreading.in_order.then_some(function), "in order: {}", misreading.what);
+        assert_reported(misread_cases, queries, function, misreading);
     }
 }
 

@@ -21,7 +21,11 @@ fill-feeders-requires : tie.Need-fill-feeders-requires
 fill-feeders-requires c κs = search (rows-in-order, needs)
 
 fill-unders-requires : tie.Need-fill-unders-requires
-fill-unders-requires c κs = rows-in-order _ (c .before .before .before .before .before .before .before .before .before .before .before .before .before .before .before .before .before .before .before .before .before .before .before .before .before .before .before .before .before .before .before .before .before .before .pre .0)
+fill-unders-requires c κs =
+    let direct = c .before .before .before .before .before .before .before in
+    let emitted = direct .before .before .before .before .before .before .before .before .before .before .before .before .before .before .before .before in
+    let start = emitted .before .before .before .before .before .before .before .before .before .before .before in
+    rows-in-order _ (start .pre .0)
 
 unmapped-requires : tie.Need-unmapped-requires
 unmapped-requires c κs = search needs
@@ -45,9 +49,17 @@ same-length-6 : tie.Need-same-length-6
 same-length-6 c = search needs
 
 returns : tie.Need-returns
-returns c = let (accepted, room) = c .before .before .before .before .before .before .before .before .before .before .before .before .before .before .before .before .before .before .before .before .before .before .before .before .before .before .before .before .before .before .before .before .before .before .before .before .before .before .pre in
-    prepared-from (c .before .before .before .before .before .before .before .before .before .before .before .before .before .before .before .before .before .before .before .before .before .before .before .before .before .before .before .before .before .before .before .before .before .before .before .before .before .before .args .profile .now) (c .before .before .before .before .before .before .before .before .before .before .before .before .before .before .before .before .before .before .before .before .before .before .before .before .before .before .before .before .before .before .before .before .before .before .before .before .before .before .args .devices .now) accepted room (c .before .before .before .before .before .before .before .before .before .before .before .before .before .before .before .before .before .before .before .before .before .before .before .before .before .before .before .fill-emitted .ensures) (c .before .before .before .before .before .before .before .before .before .before .before .before .before .before .before .before .before .before .before .before .before .before .fill-arriving .ensures) (c .before .before .before .before .before .before .before .before .before .before .before .before .before .before .before .before .before .fill-arriving2 .ensures)
-    (c .before .before .before .before .before .before .before .before .before .before .before .fill-direct .ensures) (c .before .before .before .before .before .before .before .fill-feeders .ensures) (c .before .before .before .fill-unders .ensures) (c .unmapped .ensures)
+returns c =
+    let unders = c .before .before .before in
+    let feeders = unders .before .before .before .before in
+    let direct = feeders .before .before .before .before in
+    let base = direct .before .before .before .before .before .before in
+    let charged = base .before .before .before .before .before in
+    let emitted = charged .before .before .before .before .before in
+    let start = emitted .before .before .before .before .before .before .before .before .before .before .before in
+    prepared-from (start .args .profile .now) (start .args .devices .now) (start .pre .0) (start .pre .1)
+    (emitted .fill-emitted .ensures) (charged .fill-arriving .ensures) (base .fill-arriving2 .ensures) (direct .fill-direct .ensures)
+    (feeders .fill-feeders .ensures) (unders .fill-unders .ensures) (c .unmapped .ensures)
 
 pub prepare-spec : {M : Type 1} → statement M
 prepare-spec =
