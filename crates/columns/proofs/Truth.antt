@@ -28,6 +28,11 @@ pub not-false : (b : Bool) → not b ≡ false → b ≡ true
 not-false true h = refl
 not-false false h = absurd (true≢false h)
 
+-- what cannot hold is false
+pub refuted : (b : Bool) → (b ≡ true → ⊥) → b ≡ false
+refuted true h = absurd (h refl)
+refuted false h = refl
+
 pub or-none : (b : Bool) → (b || false) ≡ b
 or-none true = refl
 or-none false = refl

@@ -9,7 +9,7 @@ use native.Mathlib.Omega.{arith}
 use borrow.Author.Tests.{ltb-true, lt-ltb, eqb-true, eq-eqb}
 use lib.IntN.{ℤ, pos, negsuc}
 use lib.Signed.{ltZ}
-use Rattle.columns.proofs.Truth.{and-true, or-true}
+use Rattle.columns.proofs.Truth.{and-true, or-true, refuted}
 use Rattle.places.specs.declared.Pos.{Pos}
 use Rattle.places.specs.Signed.{eqZ}
 use Rattle.places.specs.Places.{samePos, before, isAmong}
@@ -166,17 +166,10 @@ at-or-past p q h = go (positions p q)
     go (is-more l) = inr (cases-before q p l)
 
 pub before-asym : (p q : Pos) → before p q ≡ true → before q p ≡ false
-before-asym p q h = go (before q p) refl
-  where
-    go : (b : Bool) → before q p ≡ b → before q p ≡ false
-    go true e = absurd (before-irrefl p (before-trans p q p h e))
-    go false e = e
+before-asym p q h = refuted (before q p) (λ e. before-irrefl p (before-trans p q p h e))
 
 -- r does not come before q, nor q before p: r does not come before p
 pub not-before-trans : (p q r : Pos) → before q p ≡ false → before r q ≡ false → before r p ≡ false
-not-before-trans p q r g h = go (before r p) refl
-  where
-    go : (b : Bool) → before r p ≡ b → before r p ≡ false
-    go true e =
-        absurd (false≢true (sym h ∙ ⊎-elim (λ (same : q ≡ p). rw same e) (λ past. before-trans r p q e past) (at-or-past q p g)))
-    go false e = e
+not-before-trans p q r g h =
+    refuted (before r p)
+    (λ e. false≢true (sym h ∙ ⊎-elim (λ (same : q ≡ p). rw same e) (λ past. before-trans r p q e past) (at-or-past q p g)))

@@ -11,6 +11,7 @@ use Rattle.columns.specs.Column.{Bytes}
 use Rattle.columns.specs.declared.Found.{Found}
 use Rattle.columns.specs.declared.Found.the-variants.{At, Nothing}
 use Rattle.columns.specs.First.{foundIf, firstFrom, onFound}
+use Rattle.columns.proofs.Truth.{refuted}
 use Rattle.columns.proofs.First.{IsFirst, first-at, at-first, first-none, none-first}
 use Rattle.places.specs.declared.Pos.{Pos}
 use Rattle.places.specs.Places.{samePos, before}
@@ -20,18 +21,10 @@ use Rattle.world.specs.Find.{standsAt, isAtOrPast, firstAtOrPast, ifStan
 
 -- no position comes before itself
 not-before-itself : (q : Pos) → before q q ≡ false
-not-before-itself q = go (before q q) refl
-  where
-    go : (b : Bool) → before q q ≡ b → before q q ≡ false
-    go true e = absurd (before-irrefl q e)
-    go false e = e
+not-before-itself q = refuted (before q q) (before-irrefl q)
 
 elsewhere : (p q : Pos) → (p ≡ q → ⊥) → samePos p q ≡ false
-elsewhere p q h = go (samePos p q) refl
-  where
-    go : (b : Bool) → samePos p q ≡ b → samePos p q ≡ false
-    go true e = absurd (h (samePos-true p q e))
-    go false e = e
+elsewhere p q h = refuted (samePos p q) (λ e. h (samePos-true p q e))
 
 before-elsewhere : (p q : Pos) → before p q ≡ true → samePos p q ≡ false
 before-elsewhere p q h = elsewhere p q (λ e. before-irrefl q (rw e at h))
