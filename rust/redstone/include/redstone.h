@@ -129,6 +129,9 @@
 #define REDSTONE_SHAPE_TOP_STAIRS 5
 #define REDSTONE_SHAPE_GLASS 6
 
+/* The value of the torch's byte of a profile, by which a lit torch charges the block above it. */
+#define REDSTONE_TORCH_CHARGES_ABOVE 32
+
 /* The bench's own profile, to initialise an array: Solid and RedstoneLamp 31, Transparent and RedstoneBlock 1. */
 #define REDSTONE_BENCH_PROFILE {0, 31, 1, 0, 0, 0, 0, 0, 0, 0, 31, 1, 0}
 

@@ -132,6 +132,10 @@ pub const FARTHEST: i32 = 1_000_000;
 /// components.
 pub const BENCH_PROFILE: [u8; PROFILE_BYTES] = [0, 31, 1, 0, 0, 0, 0, 0, 0, 0, 31, 1, 0];
 
+/// The value of the torch's byte of a profile by which a lit torch gives strong power 15 to the block above it, where
+/// that block receives strong power. The bench profile does not have it; no other kind's byte may.
+pub const TORCH_CHARGES_ABOVE: u8 = 32;
+
 /// The columns that a call fills, each of one byte for each row.
 #[derive(Debug)]
 pub struct Columns<'a> {
