@@ -1,5 +1,5 @@
 -- The profile: "13 bytes, one per kind from 0, sums of: 1 supports components, 2 receives weak power, 4 receives strong power,
--- 8 repeater reads block power, 16 strong power drives dust".
+-- 8 repeater reads block power, 16 strong power drives dust", and 32 "for the torch only".
 -- Assumes nothing.
 use mathlib.Core.Bool.{Bool}
 use mathlib.Core.List.{[], _∷_}
@@ -7,6 +7,7 @@ use Prim.Native.Nat.{ℕ, _/_, _%_}
 use lib.ListN.{getD}
 use lib.Dec.{eqb}
 use Rattle.columns.specs.Column.{Bytes}
+use Rattle.blocks.specs.Kind.{RedstoneTorch}
 use Rattle.blocks.specs.declared.BlockProperties.{BlockProperties}
 
 -- the sum that the profile has for the kind holds the value
@@ -27,6 +28,10 @@ readsBlockPower = says 8
 
 abbrev pub drivesDust : Bytes → ℕ → Bool
 drivesDust = says 16
+
+-- "Profile value 32 is added for the torch only"
+abbrev pub torchChargesAbove : Bytes → Bool
+torchChargesAbove profile = says 32 profile RedstoneTorch
 
 -- `BlockKind::properties`, of the profile that the call has
 unfoldable pub propertiesOf : Bytes → ℕ → BlockProperties

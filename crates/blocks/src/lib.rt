@@ -2,7 +2,7 @@
 pub mod kind;
 
 ghost use mathlib.Core.Path.{_≡_};
-ghost use Rattle.blocks.specs.Profile.{propertiesOf};
+ghost use Rattle.blocks.specs.Profile.{propertiesOf, torchChargesAbove};
 
 pub struct BlockProperties {
     pub supports_components: bool,
@@ -24,4 +24,11 @@ pub fn properties(profile: &[u8], kind: u8) -> BlockProperties
         repeater_reads_block_power: sum / 8 % 2 == 1,
         strong_power_drives_dust: sum / 16 % 2 == 1,
     }
+}
+
+// Whether a lit torch charges the block above it.
+pub fn torch_charges_above(profile: &[u8]) -> bool
+    ensures { λ r. ⌜ r ≡ torchChargesAbove (now (profile .entry)) ⌝ }
+{
+    columns::byte_at(profile, kind::REDSTONE_TORCH as usize) / 32 % 2 == 1
 }

@@ -6,7 +6,8 @@ use Prim.Native.Nat.{ℕ}
 use lib.Dec.{eqb}
 use Rattle.columns.specs.Column.{Bytes}
 use Rattle.network.specs.Network.{Network}
-use Rattle.blocks.specs.Kind.{RedstoneBlock, isDust, isSwitch, isSource, isDiode}
+use Rattle.blocks.specs.Kind.{RedstoneTorch, RedstoneBlock, isDust, isSwitch, isSource, isDiode}
+use Rattle.blocks.specs.Profile.{torchChargesAbove}
 use Rattle.places.specs.Places.{horizontals, beside, above, below, samePos, adjacent, isAt}
 use Rattle.world.specs.Rows.{rows, posOf, kindOf, supportOf}
 use Rattle.traits.specs.Traits.{traits, isArm, conducts}
@@ -38,10 +39,16 @@ module _ (t : Bytes) (j i : ℕ) where
   feeds = isSource (kindOf t j) || outputsTo
 
 module _ (p t : Bytes) (j i : ℕ) where
+  -- with profile value 32 "a lit torch of any shape gives strong power 15 to the block above", which is row i: row j is a torch,
+  -- and what it emits is 15 lit and else 0
+  unfoldable pub isOverTorch : Bool
+  isOverTorch = eqb (kindOf t j) RedstoneTorch && (torchChargesAbove p && samePos (above (posOf t j)) (posOf t i))
+
   -- "Strong power: lever, button, plate reach their support, repeater and comparator their output, redstone block its six
-  -- neighbours, where the target receives strong"
+  -- neighbours, where the target receives strong", and with profile value 32 a torch the block above
   unfoldable pub emittedToStrong : Bool
-  emittedToStrong = traits p t i .strong && (isSupportOf t j i || (outputsTo t j i || isCharged t j i))
+  emittedToStrong =
+      traits p t i .strong && (isSupportOf t j i || (outputsTo t j i || (isCharged t j i || isOverTorch)))
 
   -- "a strongly powered block reaches its six neighbours .. where the target receives weak"
   unfoldable pub strongToWeak : Bool

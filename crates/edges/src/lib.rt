@@ -4,6 +4,7 @@ use arms::has_arm;
 use arms::is_diode;
 use arms::is_source;
 use blocks::kind;
+use blocks::torch_charges_above;
 use connectivity::output_of;
 use places::Facing;
 use places::Place;
@@ -18,7 +19,7 @@ ghost use Rattle.blocks.specs.Kind.{isSwitch};
 ghost use Rattle.places.specs.Places.{beside, below, samePos, adjacent, isAt};
 ghost use Rattle.world.specs.Rows.{posOf};
 ghost use Rattle.arms.specs.Arms.{armOf};
-ghost use Rattle.edges.specs.Edges.{outputsTo, isSupportOf, isCharged, emittedToStrong, strongToWeak, armTo, alongArm, dustToWeak, touches, feeds, emittedToDust, strongToDust};
+ghost use Rattle.edges.specs.Edges.{outputsTo, isSupportOf, isCharged, isOverTorch, emittedToStrong, strongToWeak, armTo, alongArm, dustToWeak, touches, feeds, emittedToDust, strongToDust};
 
 // Lever, button and plate.
 fn is_switch(kind: u8) -> bool
@@ -86,11 +87,28 @@ fn is_charged(table: &[u8], j: usize, i: usize) -> bool
     false
 }
 
-// Strong power: from a switch to its support, from a device to its output, from a redstone block to its neighbours.
+// Whether row j is a torch that charges the block above it, and row i is that block.
+fn is_over_torch(profile: &[u8], table: &[u8], j: usize, i: usize) -> bool
+    ensures { λ r. ⌜ r ≡ isOverTorch (now (profile .entry)) (now (table .entry)) j i ⌝ }
+{
+    if kind_of(table, j) != kind::REDSTONE_TORCH {
+        return false;
+    }
+    if torch_charges_above(profile) {
+        return pos_of(table, j).above().same(pos_of(table, i));
+    }
+    false
+}
+
+// Strong power: from a switch to its support, from a device to its output, from a redstone block to its neighbours, from a torch to
+// the block above it.
 pub fn emitted_to_strong(profile: &[u8], table: &[u8], j: usize, i: usize) -> bool
     ensures { λ r. ⌜ r ≡ emittedToStrong (now (profile .entry)) (now (table .entry)) j i ⌝ }
 {
-    if is_support_of(table, j, i) | (outputs_to(table, j, i) | is_charged(table, j, i)) {
+    if is_support_of(table, j, i)
+        | (outputs_to(table, j, i)
+            | (is_charged(table, j, i) | is_over_torch(profile, table, j, i)))
+    {
         return redstone_traits(profile, table, i).strong;
     }
     false

@@ -2,3 +2,4 @@ pub mod Emitted
 pub mod Devices
 pub mod Answers
 pub mod Demand
+pub mod Torches

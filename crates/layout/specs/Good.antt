@@ -1,6 +1,6 @@
 -- A good profile, and a good row: each field within the layout.
 -- Assumes nothing.
-use mathlib.Core.Bool.{Bool, _&&_, _||_}
+use mathlib.Core.Bool.{Bool, cond, _&&_, _||_}
 use Prim.Native.Nat.{ℕ, _+_}
 use lib.ListN.{length, getD}
 use lib.Dec.{eqb, leb}
@@ -8,14 +8,19 @@ use lib.IntN.{ℤ, pos, negsuc}
 use lib.Signed.{leZ}
 use Rattle.columns.specs.Column.{Bytes}
 use Rattle.columns.specs.First.{allBelow}
+use Rattle.blocks.specs.Kind.{RedstoneTorch}
 use Rattle.places.specs.declared.Pos.{Pos}
 use Rattle.world.specs.Rows.{byteOf, posOf}
 
--- none of the 13 bytes is above 31
-abbrev pub lowBytes : Bytes → Bool
-lowBytes p = allBelow (λ k. leb (getD p k 0) 31) 13
+-- the most that the profile may have for a kind: "Number 1 now lets the torch's byte reach 63"; any other may reach 31
+abbrev pub mostOf : ℕ → ℕ
+mostOf kind = cond (eqb kind RedstoneTorch) 63 31
 
--- 1 profile: "not 13 bytes, Air not 0, or a byte above 31" is none of it
+-- each of the 13 bytes is at most that
+abbrev pub lowBytes : Bytes → Bool
+lowBytes p = allBelow (λ k. leb (getD p k 0) (mostOf k)) 13
+
+-- 1 profile: "not 13 bytes, Air not 0, or a byte above 31", the torch's above 63, is none of it
 unfoldable pub goodProfile : Bytes → Bool
 goodProfile p = eqb (length p) 13 && (eqb (getD p 0 0) 0 && lowBytes p)
 

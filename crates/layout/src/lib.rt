@@ -1,19 +1,36 @@
-// A good profile, and a good row: each test is one expression, with no branch.
+// A good profile, and a good row: each test of a row is one expression, with no branch.
+use blocks::kind;
 use columns::byte_at;
 use places::Pos;
 use world::row::byte_of;
 ghost use mathlib.Core.Path.{_≡_};
 ghost use Prim.Native.Nat.{_<_};
 ghost use lib.IntN.{ℤ};
-ghost use Rattle.layout.specs.Good.{lowBytes, goodProfile, inRange, goodPlace, goodKind, goodValue, isUnit, goodSupport, goodArms, goodTail, goodRow};
+ghost use Rattle.layout.specs.Good.{mostOf, lowBytes, goodProfile, inRange, goodPlace, goodKind, goodValue, isUnit, goodSupport, goodArms, goodTail, goodRow};
 
-// Whether none of the 13 bytes is above 31.
+// All values of a kind together, and all of the torch, which has one more.
+const ALL: u8 = 31;
+
+const ALL_OF_TORCH: u8 = 63;
+
+// The most that the profile may have for a kind.
+fn most_of(kind: usize) -> u8
+    ensures { λ r. ⌜ r ≡ mostOf kind ⌝ }
+{
+    if kind == kind::REDSTONE_TORCH as usize {
+        ALL_OF_TORCH
+    } else {
+        ALL
+    }
+}
+
+// Whether each of the 13 bytes is at most that.
 fn low_bytes(profile: &[u8]) -> bool
     ensures { λ r. ⌜ r ≡ lowBytes (now (profile .entry)) ⌝ }
 {
     let mut k = 0;
     while k < 13 {
-        if 31 < byte_at(profile, k) {
+        if most_of(k) < byte_at(profile, k) {
             return false;
         }
         k += 1;
@@ -21,7 +38,7 @@ fn low_bytes(profile: &[u8]) -> bool
     true
 }
 
-// Whether a profile has 13 bytes, 0 for Air and none above 31.
+// Whether a profile has 13 bytes, 0 for Air and none above the most of its kind.
 pub fn good_profile(profile: &[u8]) -> bool
     ensures { λ r. ⌜ r ≡ goodProfile (now (profile .entry)) ⌝ }
 {

@@ -9,7 +9,9 @@ use native.Mathlib.Nat.{le-refl, le-trans, le-antisymm, le-max-left, le-max-righ
 use native.Mathlib.Omega.{arith}
 use Rattle.columns.specs.Column.{Column, row}
 use Rattle.columns.specs.Signal.{maxSignal}
-use Rattle.network.specs.Network.{Network, level, round, after, Answers, Rounds, Satisfies, Breaks}
+use Rattle.columns.proofs.Columns.{row-tabulate}
+use Rattle.network.specs.Levels.{arriving}
+use Rattle.network.specs.Network.{Network, strongOf, level, round, after, Answers, Rounds, Satisfies, Breaks}
 use Rattle.network.specs.Settled.{settling, roundsOf, settled}
 use Rattle.network.specs.Compare.{Rel₂, Rel₃, Larger, AtMost, Within, AtEveryRow₂, AtEveryRow₃, States₂, States₃, Bounded, PowerOnMap}
 use Rattle.network.specs.Laws.Kept.{Kept, after-kept}
@@ -67,7 +69,12 @@ module _ (N : Network) (e : Column) where
   unfolding level
   settled-capped i l d = rw (← settled-satisfies i l d) (min-le-left _ _)
 
-  -- ---- power off the map, and the largest numbers
+  -- ---- strong power, power off the map, and the largest numbers
+
+  -- Strong power is the largest emitted level that reaches the row so.
+  pub settled-strong : (i : ℕ) → i < N .size → row (settled N e .strong) i ≡ arriving (N .size) (N .emittedToStrong) (row e) i
+  unfolding round strongOf
+  settled-strong i l = rw (← settled-again) (row-tabulate (N .size) _ i l)
 
   -- Power is 0 off the map, where power reaches only rows of the map.
   pub off-map : PowerOnMap N → (i : ℕ) → N .mapped i ≡ false → (row (settled N e .weak) i ≡ 0) × (row (settled N e .strong) i ≡ 0)

@@ -15,16 +15,22 @@ outputs-to-requires c κs = search needs
 is-charged-requires : tie.Need-is-charged-requires
 is-charged-requires c κs = search needs
 
+is-over-torch-requires : tie.Need-is-over-torch-requires
+is-over-torch-requires c κs = search needs
+
 redstone-traits-requires : tie.Need-redstone-traits-requires
 redstone-traits-requires c κs = search needs
 
 returns : tie.Need-returns
 unfolding emittedToStrong
-returns c = rw (← c .before .before .before .before .is-support-of .ensures, ← c .before .before .before .outputs-to .ensures, ← c .before .before .is-charged .ensures, c .before .if1 .taken, and-true) (ap (λ r. r .strong) (c .redstone-traits .ensures))
+returns c =
+    rw (← c .before .before .before .before .before .is-support-of .ensures, ← c .before .before .before .before .outputs-to .ensures, ← c .before .before .before .is-charged .ensures, ← c .before .before .is-over-torch .ensures, c .before .if1 .taken, and-true)
+    (ap (λ r. r .strong) (c .redstone-traits .ensures))
 
 returns-2 : tie.Need-returns-2
 unfolding emittedToStrong
-returns-2 c = rw (← c .before .before .before .is-support-of .ensures, ← c .before .before .outputs-to .ensures, ← c .before .is-charged .ensures, c .if1 .left, and-false)
+returns-2 c =
+    rw (← c .before .before .before .before .is-support-of .ensures, ← c .before .before .before .outputs-to .ensures, ← c .before .before .is-charged .ensures, ← c .before .is-over-torch .ensures, c .if1 .left, and-false)
 
 pub emitted-to-strong-spec : {M : Type 1} → statement M
 emitted-to-strong-spec =
@@ -33,6 +39,7 @@ emitted-to-strong-spec =
     is-support-of-requires
     outputs-to-requires
     is-charged-requires
+    is-over-torch-requires
     redstone-traits-requires
     returns
     returns-2)

@@ -9,11 +9,12 @@ use lib.Dec.{leb}
 use borrow.Author.Tests.{lt-leb, le-leb}
 use Rattle.columns.specs.First.{allBelow}
 use Rattle.columns.proofs.First.{all-more, all-fails}
+use Rattle.layout.specs.Good.{mostOf}
 use Rattle.layout.proofs.low_bytes.Statement.{statement}
 use Rattle.layout.proofs.low_bytes.Tie as tie
 
 abbrev Inv-loop : tie.InvT-loop
-Inv-loop profile k₀ k = (k ≤ 13) × (allBelow (λ b. leb (getD profile b 0) 31) k ≡ true)
+Inv-loop profile k₀ k = (k ≤ 13) × (allBelow (λ b. leb (getD profile b 0) (mostOf b)) k ≡ true)
 
 abbrev μ-loop : tie.MeasureT-loop
 μ-loop profile k₀ k = 13 - k
@@ -21,15 +22,19 @@ abbrev μ-loop : tie.MeasureT-loop
 loop-holds : tie.Need-loop-holds Inv-loop μ-loop
 loop-holds c = (omega arith, refl)
 
+most-of-requires : tie.Need-most-of-requires Inv-loop μ-loop
+most-of-requires c κs = search needs
+
 byte-at-requires : tie.Need-byte-at-requires Inv-loop μ-loop
 byte-at-requires c κs = search needs
 
 returns : tie.Need-returns Inv-loop μ-loop
 returns c =
-    let l = c .before .before .before in
+    let l = c .before .before .before .before in
     let a = l .before .before .args .profile .now in
-    let e : leb (getD a (l .loop .k) 0) 31 ≡ false = lt-leb (getD a (l .loop .k) 0) 31 (omega (arith, c .before .byte-at .ensures)) in
-    sym (all-fails (λ b. leb (getD a b 0) 31) 13 (l .loop .k) (omega arith) e)
+    let k = l .loop .k in
+    let e : leb (getD a k 0) (mostOf k) ≡ false = lt-leb (getD a k 0) (mostOf k) (omega (arith, c .before .before .most-of .ensures, c .before .byte-at .ensures)) in
+    sym (all-fails (λ b. leb (getD a b 0) (mostOf b)) 13 k (omega arith) e)
 
 add-k : tie.Need-add-k Inv-loop μ-loop
 add-k c = omega arith
@@ -39,10 +44,11 @@ loop-less c = omega arith
 
 loop-again : tie.Need-loop-again Inv-loop μ-loop
 loop-again c =
-    let l = c .before .before .before in
+    let l = c .before .before .before .before in
     let a = l .before .before .args .profile .now in
-    let e : leb (getD a (l .loop .k) 0) 31 ≡ true = le-leb (getD a (l .loop .k) 0) 31 (omega (arith, c .before .byte-at .ensures)) in
-    (omega arith, all-more (λ b. leb (getD a b 0) 31) (l .loop .k) (l .loop .inv .1) e)
+    let k = l .loop .k in
+    let e : leb (getD a k 0) (mostOf k) ≡ true = le-leb (getD a k 0) (mostOf k) (omega (arith, c .before .before .most-of .ensures, c .before .byte-at .ensures)) in
+    (omega arith, all-more (λ b. leb (getD a b 0) (mostOf b)) k (l .loop .inv .1) e)
 
 returns-2 : tie.Need-returns-2 Inv-loop μ-loop
 returns-2 c =
@@ -57,6 +63,7 @@ low-bytes-spec =
     Inv-loop
     μ-loop
     loop-holds
+    most-of-requires
     byte-at-requires
     returns
     add-k
