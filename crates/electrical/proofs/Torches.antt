@@ -1,5 +1,5 @@
--- Document 02, Change 3, over tables: what profile value 32 of the torch's byte says of strong power. Demand.antt takes the profile as given
--- and asks nowhere whether it has the value, so that its theorems hold with the value set and clear.
+-- Document 02, Change 3, over tables: what profile value 32 of the torch's byte says of strong power. That the join rule and the bound of 17 hold
+-- with the value set or clear is in Demand.antt.
 -- Assumes nothing.
 use mathlib.Core.Path.{_≡_}
 use mathlib.Core.Bool.{true, false, cond, _&&_, _||_, and-false, or-true, or-false}

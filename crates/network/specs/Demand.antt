@@ -1,5 +1,5 @@
--- What holds in every network, whatever is emitted: of the rounds, of the one set of dust levels, of the larger of two emitted columns, and of how
--- far a change carries.
+-- What holds in every network, whatever is emitted: of the rounds, of the one set of dust levels, of power, of the larger of two emitted columns,
+-- and of how far a change carries.
 -- Assumes nothing.
 use mathlib.Core.Path.{_≡_, ap, sym, _∙_}
 use mathlib.Core.Bool.{true, false}
