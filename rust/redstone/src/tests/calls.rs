@@ -119,8 +119,10 @@ impl Buffers {
     }
 }
 
-/// What each call is refused with under a profile. One that is not refused writes.
-const CALLS: [fn(&[u8], &mut Buffers) -> Option<(u32, usize)>; 6] = [
+/// A call under a profile, and what it is refused with. One that is not refused writes.
+type Call = fn(&[u8], &mut Buffers) -> Option<(u32, usize)>;
+
+const CALLS: [Call; 6] = [
     |profile, of| refused(fresh(profile, &of.table, &mut of.state, of.lent.columns())),
     |profile, of| refused(settle(profile, &of.table, &[0; 3], 17, of.lent.columns())),
     |profile, of| refused(tick(profile, &of.table, &mut of.state, 0, 1, of.lent.columns())),
