@@ -46,7 +46,7 @@ fn numbers(text: &str) -> BTreeSet<u8> {
     hints_of(text).iter().map(|hint| hint.number).collect()
 }
 
-/// Whether a table says its profile. In an entry it is one under which the bench does as the game does.
+/// Whether a table says its profile. In an entry it is one that takes the entry's difference away.
 fn has_profile(table: &str) -> bool {
     table.starts_with("profile ")
 }
