@@ -41,7 +41,9 @@
  *   - Dust takes the arms that no entry is stored for from what stands around it.
  *
  * Profile. 13 bytes, one for each kind from 0 (Air, always 0), a sum of: 1 supports components, 2 receives weak power,
- * 4 receives strong power, 8 repeater reads block power, 16 strong power drives dust.
+ * 4 receives strong power, 8 repeater reads block power, 16 strong power drives dust. 32 is for RedstoneTorch's alone: a
+ * lit torch gives strong power 15 to the block above it, where that receives strong power. The bench profile has it
+ * clear.
  *
  * Devices. A byte a row: repeater powered or torch lit 0/1, comparator 0-255, other kinds 0.
  *
@@ -56,14 +58,14 @@
  *   9-15  0
  *
  * Signal, weak, strong. A byte a row. The signal is the level that a source or device gives, and a dust's own. Strong
- * power is what levers, buttons, plates, repeaters, comparators and redstone blocks give to a block. Weak power is what
- * dust, and strongly powered neighbours, give to a block. Lamps, torches, repeaters and comparators answer to both;
- * strong power alone drives dust.
+ * power is what levers, buttons, plates, repeaters, comparators, redstone blocks and, by the profile, torches give to a
+ * block. Weak power is what dust, and strongly powered neighbours, give to a block. Lamps, torches, repeaters and
+ * comparators answer to both; strong power alone drives dust.
  *
  * Refusals, tested in this order as far as the call has the input, 4 over all rows before 5, in 6 the length before a
  * value; the row is the first at fault for 4, 5 and a value in 6, and else 0.
  *
- *   1 profile     not 13 bytes, Air not 0, or a byte above 31
+ *   1 profile     not 13 bytes, Air not 0, or a byte above 31, the torch's above 63
  *   2 ragged      table length not a multiple of 32
  *   3 crowded     more than 1024 rows
  *   4 bad row     a field outside the layout
@@ -129,7 +131,8 @@
 #define REDSTONE_SHAPE_TOP_STAIRS 5
 #define REDSTONE_SHAPE_GLASS 6
 
-/* The value of the torch's byte of a profile, by which a lit torch charges the block above it. */
+/* The value of the torch's byte of a profile, by which a lit torch charges the block above it:
+ * profile[REDSTONE_KIND_REDSTONE_TORCH] |= REDSTONE_TORCH_CHARGES_ABOVE */
 #define REDSTONE_TORCH_CHARGES_ABOVE 32
 
 /* The bench's own profile, to initialise an array: Solid and RedstoneLamp 31, Transparent and RedstoneBlock 1. */

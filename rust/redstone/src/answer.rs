@@ -37,7 +37,7 @@ pub struct Refusal {
 #[derive(Clone, Copy, Debug, Eq, Hash, PartialEq)]
 #[non_exhaustive]
 pub enum RefusalKind {
-    /// 1: the profile is not 13 bytes, Air's is not 0, or one is above 31.
+    /// 1: the profile is not 13 bytes, Air's is not 0, the torch's is above 63, or another is above 31.
     Profile,
     /// 2: the table's length is not a multiple of 32.
     Ragged,

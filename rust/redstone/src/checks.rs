@@ -2,9 +2,12 @@
 //! with which number, is the proved call's to say.
 
 use crate::device::{Device, read_device_byte};
-use crate::{BadField, Buffer, Fault, MOST_ROWS, PROFILE_BYTES, ROW_BYTES, Row, STATE_BYTES, rows};
+use crate::{
+    BadField, Buffer, Fault, Kind, MOST_ROWS, PROFILE_BYTES, ROW_BYTES, Row, STATE_BYTES,
+    TORCH_CHARGES_ABOVE, rows,
+};
 
-/// The largest byte of a profile but for Air's, which is 0.
+/// The sum of the values that the byte of every kind may have.
 const MOST_PROPERTIES: u8 = 31;
 
 /// The lengths of buffers that are lent to be written.
@@ -75,12 +78,22 @@ fn check_profile(profile: &[u8]) -> Result<(), Fault> {
         return Err(Fault::ProfileLength { length: profile.len() });
     }
     for (kind, &value) in (0..).zip(profile) {
-        let most = if kind == 0 { 0 } else { MOST_PROPERTIES };
+        let most = most_properties(kind);
         if value > most {
             return Err(Fault::ProfileByte { kind, value, most });
         }
     }
     Ok(())
+}
+
+/// The largest byte of a profile for the kind of a code.
+fn most_properties(kind: u8) -> u8 {
+    match Kind::try_from(kind) {
+        Ok(Kind::RedstoneTorch) => MOST_PROPERTIES + TORCH_CHARGES_ABOVE,
+        Ok(_) => MOST_PROPERTIES,
+        // Air, which is no block's kind.
+        Err(_) => 0,
+    }
 }
 
 /// 3, which falls on a table of whole rows alone.

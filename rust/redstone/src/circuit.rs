@@ -66,7 +66,8 @@ pub struct Figures {
     pub signal: u8,
     /// The power that dust, and strongly powered neighbours, give to the block.
     pub weak: u8,
-    /// The power that levers, buttons, plates, repeaters, comparators and redstone blocks give to the block.
+    /// The power that levers, buttons, plates, repeaters, comparators, redstone blocks and, by the profile, torches give
+    /// to the block.
     pub strong: u8,
 }
 

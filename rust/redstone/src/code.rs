@@ -109,7 +109,8 @@ coded! {
         Transparent = 2,
         /// Dust.
         RedstoneWire = 3,
-        /// A torch. It is fixed to the block at its support offset.
+        /// A torch. It is fixed to the block at its support offset. Lit, it powers the block above it where the profile
+        /// has [`TORCH_CHARGES_ABOVE`](crate::TORCH_CHARGES_ABOVE), and no block by the bench profile.
         RedstoneTorch = 4,
         /// A repeater. It faces its output.
         Repeater = 5,

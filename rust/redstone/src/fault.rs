@@ -3,7 +3,7 @@
 use std::error::Error;
 use std::fmt::{self, Display, Formatter};
 
-use crate::{BadField, Kind, MOST_ROWS, PROFILE_BYTES, ROW_BYTES, Rounds};
+use crate::{BadField, Kind, MOST_ROWS, PROFILE_BYTES, ROW_BYTES, Rounds, TORCH_CHARGES_ABOVE};
 
 /// What exactly is wrong with an input. Its message says what would be right.
 #[derive(Clone, Copy, Debug, Eq, Hash, PartialEq)]
@@ -160,7 +160,12 @@ impl Display for Fault {
             }
             Self::ProfileByte { kind, value, most } => {
                 let of = Kind::try_from(kind).map_or("Air", Kind::name);
-                write!(f, "byte {kind} of the profile, {of}'s, is {value}; it may be at most {most}")
+                write!(f, "byte {kind} of the profile, {of}'s, is {value}; it may be at most {most}")?;
+                if has_value_of_torch(kind, value, most) {
+                    let torch = Kind::RedstoneTorch;
+                    write!(f, ": take {TORCH_CHARGES_ABOVE} off, which {torch}'s alone may have")?;
+                }
+                Ok(())
             }
             Self::Ragged { length } => {
                 write!(f, "the table has length {length}; it must be {ROW_BYTES} for each row")
@@ -202,6 +207,12 @@ impl Display for Fault {
             }
         }
     }
+}
+
+/// Whether a byte of a profile, of another kind than the torch, would be good without the value that is the torch's.
+fn has_value_of_torch(kind: u8, value: u8, most: u8) -> bool {
+    let rest = value.checked_sub(TORCH_CHARGES_ABOVE);
+    kind != Kind::RedstoneTorch.code() && rest.is_some_and(|rest| rest <= most)
 }
 
 impl Error for Fault {}

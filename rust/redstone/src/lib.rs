@@ -37,7 +37,8 @@
 //! # Figures
 //!
 //! - The *signal* is the level that a source or device gives, and a dust's own; 0 for all other blocks.
-//! - *Strong power* is what levers, buttons, plates, repeaters, comparators and redstone blocks give to a block.
+//! - *Strong power* is what levers, buttons, plates, repeaters, comparators and redstone blocks give to a block; and
+//!   lit torches to the one above, if the profile has [`TORCH_CHARGES_ABOVE`].
 //! - *Weak power* is what dust, and strongly powered neighbours, give to a block.
 //!
 //! Lamps, torches, repeaters and comparators answer to both powers; strong power alone drives dust. What a table
@@ -129,11 +130,32 @@ pub const MOST_ROWS: usize = 1024;
 pub const FARTHEST: i32 = 1_000_000;
 
 /// The bench's own profile: solid blocks and lamps conduct, and they, transparent blocks and redstone blocks carry
-/// components.
+/// components. Torches power no block: [`TORCH_CHARGES_ABOVE`] is clear.
 pub const BENCH_PROFILE: [u8; PROFILE_BYTES] = [0, 31, 1, 0, 0, 0, 0, 0, 0, 0, 31, 1, 0];
 
 /// The value of the torch's byte of a profile by which a lit torch gives strong power 15 to the block above it, where
 /// that block receives strong power. The bench profile does not have it; no other kind's byte may.
+///
+/// A torch, a block over it, and dust on the block:
+///
+/// ```
+/// use redstone::{BENCH_PROFILE, Circuit, Kind, Refusal, Row, TORCH_CHARGES_ABOVE};
+///
+/// fn levels(profile: &[u8]) -> Result<[u8; 2], Refusal> {
+///     let circuit = Circuit::new(profile, [
+///         Row::new(Kind::RedstoneTorch, [0, 0, 0]),
+///         Row::new(Kind::Solid, [0, 1, 0]),
+///         Row::new(Kind::RedstoneWire, [0, 2, 0]),
+///     ])?;
+///     Ok([circuit.settled().strong()[1], circuit.settled().signal()[2]])
+/// }
+///
+/// let mut profile = BENCH_PROFILE;
+/// profile[usize::from(Kind::RedstoneTorch.code())] |= TORCH_CHARGES_ABOVE;
+/// assert_eq!(levels(&profile)?, [15, 15]);
+/// assert_eq!(levels(&BENCH_PROFILE)?, [0, 0]);
+/// # Ok::<(), Refusal>(())
+/// ```
 pub const TORCH_CHARGES_ABOVE: u8 = 32;
 
 /// The columns that a call fills, each of one byte for each row.
@@ -143,7 +165,8 @@ pub struct Columns<'a> {
     pub signal: &'a mut [u8],
     /// The power that dust, and strongly powered neighbours, give to a block.
     pub weak: &'a mut [u8],
-    /// The power that levers, buttons, plates, repeaters, comparators and redstone blocks give to a block.
+    /// The power that levers, buttons, plates, repeaters, comparators, redstone blocks and, by the profile, torches give
+    /// to a block.
     pub strong: &'a mut [u8],
 }
 

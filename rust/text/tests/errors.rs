@@ -116,6 +116,12 @@ fn errors_in_other_lines_of_a_table() {
         ("profile Solid", (1, 9), r#"found "Solid", expected a field name=value"#),
         ("profile Sold=1", (1, 9), r#"found "Sold", expected a kind: did you mean Solid?"#),
         ("profile Solid=256", (1, 15), r#"found "256", expected a whole number from 0 to 255"#),
+        ("profile torch=32", (1, 9), r#"found "torch", expected a kind: did you mean RedstoneTorch?"#),
+        (
+            "profile RedstoneTorch=32 RedstoneTorch=1",
+            (1, 26),
+            r#"found "RedstoneTorch" again, expected a kind that is not given yet"#,
+        ),
         ("profile Solid=1 Solid=1", (1, 17), r#"found "Solid" again, expected a kind that is not given yet"#),
         (
             "profile=0,31,1",

@@ -1,6 +1,6 @@
 //! Rows, tables and steps are equal after they are written and read, and what is written is short.
 
-use redstone::{Arm, BENCH_PROFILE, FARTHEST, Facing, Kind, MOST_ROWS, Row, Shape};
+use redstone::{Arm, BENCH_PROFILE, FARTHEST, Facing, Kind, MOST_ROWS, Row, Shape, TORCH_CHARGES_ABOVE};
 use redstone_text::{Profile, Step, Table, lines, read_row, row_text};
 
 /// Missing, or one of these.
@@ -156,6 +156,43 @@ fn what_is_missing_may_be_said() {
     assert_eq!(plain, Some(Row::new(Kind::Solid, [0; 3])));
     assert_eq!("profile\nblocks=0\n".parse::<Table>().map(|table| table.profile), Ok(Profile::default()));
     assert_eq!("blocks=0\n".parse::<Table>().map(|table| table.profile), Ok(BENCH_PROFILE));
+}
+
+/// Kinds stand in any order in the line, and are written by their codes.
+#[test]
+fn the_value_of_the_torch_is_read_and_written() {
+    let mut charging = BENCH_PROFILE;
+    charging[usize::from(Kind::RedstoneTorch.code())] |= TORCH_CHARGES_ABOVE;
+    for (line, profile, written) in [
+        (
+            "profile Solid=31 Transparent=1 RedstoneLamp=31 RedstoneBlock=1 RedstoneTorch=32",
+            charging,
+            "profile Solid=31 Transparent=1 RedstoneTorch=32 RedstoneLamp=31 RedstoneBlock=1",
+        ),
+        (
+            "profile RedstoneTorch=32 Solid=31",
+            [0, 31, 0, 0, 32, 0, 0, 0, 0, 0, 0, 0, 0],
+            "profile Solid=31 RedstoneTorch=32",
+        ),
+        ("profile RedstoneTorch=63", [0, 0, 0, 0, 63, 0, 0, 0, 0, 0, 0, 0, 0], "profile RedstoneTorch=63"),
+    ] {
+        let table: Table = format!("{line}\nblocks=0\n").parse().expect(line);
+        assert_eq!(table.profile, profile, "{line}");
+        assert_eq!(table.to_string(), format!("{written}\nblocks=0\n"));
+    }
+}
+
+/// What no call accepts is read all the same, for a call to refuse.
+#[test]
+fn every_byte_of_a_profile_is_equal_after_it_is_written_and_read() {
+    for kind in Kind::ALL {
+        for byte in 0..=u8::MAX {
+            let mut profile = BENCH_PROFILE;
+            profile[usize::from(kind.code())] = byte;
+            let table = Table { profile, rows: Vec::new() };
+            assert_eq!(table.to_string().parse(), Ok(table), "{kind}={byte}");
+        }
+    }
 }
 
 #[test]

@@ -1,6 +1,6 @@
 //! A run, with what stands beside what.
 
-use redstone::{Arm, Circuit, Device, Facing, Kind, Refusal, Row, Shape, redraw, rows};
+use redstone::{Arm, Circuit, Device, Facing, Kind, Refusal, Row, Shape, TORCH_CHARGES_ABOVE, redraw, rows};
 
 use crate::device::place;
 use crate::hall::Hall;
@@ -145,16 +145,23 @@ impl<'a> View<'a> {
         self.ever(|frame| frame.figures(row).signal > 0)
     }
 
+    /// Whether a kind has one of these values in the profile.
+    fn has_property(&self, kind: Kind, values: u8) -> bool {
+        self.profile.get(usize::from(kind.code())).is_some_and(|properties| properties & values != 0)
+    }
+
     /// Whether a row can have weak or strong power.
     pub fn takes_power(&self, row: usize) -> bool {
         const WEAK_AND_STRONG: u8 = 6;
         match self.row(row).shape() {
-            Shape::Plain => {
-                let properties = self.profile.get(usize::from(self.kind(row).code()));
-                properties.is_some_and(|properties| properties & WEAK_AND_STRONG != 0)
-            }
+            Shape::Plain => self.has_property(self.kind(row), WEAK_AND_STRONG),
             shape => shape == Shape::DoubleSlab,
         }
+    }
+
+    /// Whether a lit torch gives power to the block above, as in the game.
+    pub fn torches_charge_above(&self) -> bool {
+        self.has_property(Kind::RedstoneTorch, TORCH_CHARGES_ABOVE)
     }
 
     /// Whether a torch, repeater or comparator, beside a block, answers to its power.

@@ -3,7 +3,8 @@
 use std::collections::{BTreeMap, BTreeSet};
 use std::fs;
 
-use hall::{Hall, Run, hints};
+use hall::{Hall, Hint, Run, hints};
+use redstone::{BENCH_PROFILE, Kind, TORCH_CHARGES_ABOVE};
 
 use crate::support::{hall, root, samples};
 
@@ -33,11 +34,21 @@ fn switches(run: &str) -> String {
     text
 }
 
-/// The numbers of the hints of a text.
-fn numbers(text: &str) -> BTreeSet<u8> {
+/// The hints of a text.
+fn hints_of(text: &str) -> Vec<Hint> {
     let hall = Hall::from_text("a.hall", text, None).unwrap_or_else(|refused| panic!("{refused}\n{text}"));
     let run = Run::new(&hall, 40).expect("an accepted table");
-    hints(&hall, &run).expect("an accepted table").iter().map(|hint| hint.number).collect()
+    hints(&hall, &run).expect("an accepted table")
+}
+
+/// The numbers of the hints of a text.
+fn numbers(text: &str) -> BTreeSet<u8> {
+    hints_of(text).iter().map(|hint| hint.number).collect()
+}
+
+/// Whether a table says its profile. In an entry it is one that takes the entry's difference away.
+fn has_profile(table: &str) -> bool {
+    table.starts_with("profile ")
 }
 
 fn document() -> String {
@@ -61,7 +72,7 @@ const WITHOUT: [u8; 23] =
 fn the_tables_of_an_entry_give_its_hint() {
     let document = document();
     let entries = entries(&document);
-    let mut with = BTreeSet::new();
+    let (mut with, mut cured) = (BTreeSet::new(), BTreeSet::new());
     for (number, entry) in &entries {
         if WITHOUT.contains(number) {
             continue;
@@ -70,16 +81,21 @@ fn the_tables_of_an_entry_give_its_hint() {
         assert!(!tables.is_empty(), "entry {number} has no table");
         for table in tables {
             let found = numbers(&table);
-            // The second table of 17 is a cross that is stored, which the bench takes for one.
-            if found.contains(number) {
+            let is_given = found.contains(number);
+            if has_profile(&table) {
+                assert!(!is_given, "a table of entry {number}, by its profile, gives {found:?}:\n{table}");
+                cured.insert(*number);
+            } else if is_given {
                 with.insert(*number);
             } else {
+                // The second table of 17 is a cross that is stored, which the bench takes for one.
                 assert_eq!(*number, 17, "a table of entry {number} gives {found:?}:\n{table}");
             }
         }
     }
     let all: BTreeSet<_> = entries.keys().copied().filter(|number| !WITHOUT.contains(number)).collect();
     assert_eq!(with, all);
+    assert!(cured.contains(&22), "no table of entry 22 says its profile");
 }
 
 /// Where the bench agrees with the game, the only hints are of fields that the tables leave out, and of devices that are
@@ -182,6 +198,21 @@ fn what_the_game_does_too_gets_no_hint() {
             &[23],
             None,
         ),
+        // A block and a lamp over a torch that charges them, and one whose profile has all but the value for that.
+        (&charging("0,0,0 RedstoneTorch\n0,1,0 Solid\n0,2,0 RedstoneWire\n"), &[22], None),
+        (&charging("0,0,0 RedstoneTorch\n0,1,0 RedstoneLamp\n"), &[22, 23], None),
+        ("profile Solid=31 RedstoneTorch=31\n0,0,0 RedstoneTorch\n0,1,0 Solid\n", &[], Some(22)),
+        // The value is for the block above alone: a lamp beside such a torch, or under it, is dark.
+        (&charging("0,0,0 RedstoneTorch\n1,0,0 RedstoneLamp\n"), &[22], Some(23)),
+        (&charging("0,0,0 RedstoneLamp\n0,1,0 RedstoneTorch support=1,0,0\n"), &[22], Some(23)),
+        // What a charged block does here and not in the game, or in the game and not here.
+        (&charging("0,0,0 RedstoneTorch\n0,1,0 Solid\n1,1,0 RedstoneWire\n"), &[22], Some(18)),
+        (&charging("0,0,0 RedstoneTorch\n0,1,0 Solid\n1,1,0 Comparator facing=North\n"), &[22], Some(24)),
+        (
+            &charging("0,0,0 RedstoneTorch\n0,1,0 Solid\n1,1,0 Solid\n2,1,0 Repeater facing=East\n"),
+            &[22],
+            Some(4),
+        ),
         // Of a pulse that the run's first or last tick cuts off it is not known how long it is.
         ("0,0,0 Repeater facing=East powered=true delay=2\n", &[34, 35], None),
         ("0,0,0 Lever\n1,0,0 Repeater facing=East delay=2\nswitch tick 38 0,0,0 on\n", &[34, 35], None),
@@ -197,6 +228,35 @@ fn what_the_game_does_too_gets_no_hint() {
         assert!(none.iter().all(|number| !found.contains(number)), "{found:?}:\n{table}");
         assert!(instead.is_none_or(|number| found.contains(&number)), "{found:?}:\n{table}");
     }
+}
+
+/// A table under the profile that the hint of a block over a torch gives.
+fn charging(table: &str) -> String {
+    format!("{}\n{table}", line_of_hint())
+}
+
+/// The line that the hint of a block over a torch gives.
+fn line_of_hint() -> &'static str {
+    let hints = hints_of("0,0,0 RedstoneTorch\n0,1,0 Solid\n");
+    let hint = hints.iter().find(|hint| hint.number == 22).expect("a hint of the torch");
+    hint.sentence.split('`').nth(1).expect("a line")
+}
+
+/// It is the bench profile with the value for the torch. README.md has it, too, and no other.
+#[test]
+fn who_writes_the_line_of_the_hint_has_torches_that_charge_the_block_above() {
+    let text = charging("0,0,0 RedstoneTorch\n0,1,0 Solid\n0,2,0 RedstoneWire\n");
+    let hall = Hall::from_text("a.hall", &text, None).expect("a hall");
+    let mut profile = BENCH_PROFILE;
+    profile[usize::from(Kind::RedstoneTorch.code())] |= TORCH_CHARGES_ABOVE;
+    assert_eq!(hall.fresh.profile(), profile);
+    assert_eq!(hall.fresh.settled().strong(), [0, 15, 0]);
+    assert_eq!(hall.fresh.settled().signal(), [15, 0, 15]);
+
+    let readme = fs::read_to_string(root().join("README.md")).expect("README.md");
+    let of_torch = |line: &&str| line.starts_with("profile ") && line.contains("RedstoneTorch=");
+    let lines: Vec<_> = readme.lines().filter(of_torch).collect();
+    assert_eq!(lines, [line_of_hint()]);
 }
 
 /// In the game no torch burns out in the clock of entry 44, so that the hint does not say that it does.

@@ -51,6 +51,7 @@ fn each_refusal_of_the_packed_form() {
         (packed(|bytes| bytes.truncate(12)), "refusal 1, profile: "),
         (packed(|bytes| bytes[0] = 1), "refusal 1, profile: "),
         (packed(|bytes| bytes[1] = 32), "refusal 1, profile: "),
+        (packed(|bytes| bytes[4] = 64), "refusal 1, profile: "),
         (packed(|bytes| bytes.truncate(50)), "refusal 2, ragged: "),
         (packed(|bytes| bytes[13 + 13] = 7), "refusal 4, bad row: row 0 at 0,0,0: "),
         (packed(|bytes| bytes[13..].rotate_left(ROW_BYTES)), "refusal 5, misplaced: row 1 at 0,0,0 "),
@@ -104,6 +105,54 @@ fn each_refusal_of_the_text_form() {
     );
     let long = "#".repeat(5 << 20);
     assert_refused(long.as_bytes(), "", "the text has more than 4194304 bytes: a hall has at most 1024 rows");
+}
+
+/// In a hall's line, in a file that --profile names, and packed.
+#[test]
+fn a_profile_that_no_torch_or_lever_may_have_says_what_it_may_be() {
+    let number = "refusal 1, profile: byte";
+    for (field, at, byte, sentence) in [
+        ("RedstoneTorch=64", 4, 64, "4 of the profile, RedstoneTorch's, is 64; it may be at most 63"),
+        (
+            "Lever=32",
+            7,
+            32,
+            "7 of the profile, Lever's, is 32; it may be at most 31: take 32 off, which RedstoneTorch's alone may have",
+        ),
+    ] {
+        let line = format!("profile Solid=31 {field}\n");
+        assert_refused(format!("{line}0,0,0 Solid\n").as_bytes(), "", &format!("{number} {sentence}"));
+        assert_refused(&packed(|bytes| bytes[at] = byte), "", &format!("{number} {sentence}{PACKED}"));
+        let profile = file("profile_of_torch", "profile.txt", line);
+        let done = hall(&["run", "halls/vault-door.hall", "--profile", &profile]);
+        assert_eq!((done.status, done.err), (Some(2), format!("hall: {profile}: {number} {sentence}.\n")));
+    }
+}
+
+/// As a hall's line, as one in a file that --profile names, as 13 bytes there, and packed.
+#[test]
+fn the_value_of_the_torch_is_taken_wherever_a_profile_stands() {
+    const ROWS: &str = "0,0,0 RedstoneTorch\n0,1,0 Solid\n";
+    for (byte, strong) in [(31, 0), (32, 15), (63, 15)] {
+        let line = format!("profile Solid=31 RedstoneTorch={byte}\n");
+        let profile = [0, 31, 0, 0, byte, 0, 0, 0, 0, 0, 0, 0, 0];
+        let text = file("torch_line", "line.txt", &line);
+        let bytes = file("torch_bytes", "bytes.bin", profile);
+        let table = hall_with(&["pack", "-"], ROWS.as_bytes()).out.split_off(profile.len());
+        for (words, input) in [
+            (vec![], format!("{line}{ROWS}").into_bytes()),
+            (vec!["--profile", &text], ROWS.into()),
+            (vec!["--profile", &bytes], ROWS.into()),
+            (vec![], [&profile[..], &table].concat()),
+        ] {
+            let done = hall_with(&[&["csv", "-", "--ticks=0"], &words[..]].concat(), &input);
+            assert_eq!(done.status, Some(0), "{}", done.err);
+            let row = format!("\n0,0,1,0,Solid,0,0,{strong},");
+            assert!(done.text().contains(&row), "{byte}, {words:?}: {}", done.text());
+        }
+        let written = hall_with(&["unpack", "-"], &[&profile[..], &table].concat());
+        assert_eq!(written.text(), format!("{line}blocks=2\n{ROWS}"));
+    }
 }
 
 #[test]

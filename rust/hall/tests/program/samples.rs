@@ -1,12 +1,38 @@
 //! The sample halls.
 
-use crate::support::{hall, samples};
+use redstone::BENCH_PROFILE;
+
+use crate::support::{file, hall, samples};
 
 #[test]
-fn there_are_six_halls_and_nothing_else() {
-    let names =
-        ["comparator-subtract", "fading-line", "repeater-lock", "slab-rise", "torch-clock", "vault-door"];
+fn there_are_seven_halls_and_nothing_else() {
+    let names = [
+        "comparator-subtract",
+        "fading-line",
+        "repeater-lock",
+        "slab-rise",
+        "torch-clock",
+        "vault-door",
+        "charging/torch-tower",
+    ];
     assert_eq!(samples(), names.map(|name| format!("halls/{name}.hall")));
+}
+
+/// Without the value of its profile the tower is not as it expects, and the hints say what is missing.
+#[test]
+fn the_torch_tower_needs_its_profile() {
+    const TOWER: &str = "halls/charging/torch-tower.hall";
+    let bench = file("tower_bench", "bench.bin", BENCH_PROFILE);
+    let hints = |words: &[&str]| {
+        let text = hall(words).text().to_owned();
+        text.lines().filter_map(|line| line.strip_prefix("hint ")?.split(':').next()?.parse().ok()).collect()
+    };
+    let (with, without): (Vec<u8>, Vec<u8>) =
+        (hints(&["run", TOWER]), hints(&["run", TOWER, "--profile", &bench]));
+    assert_eq!((with, without), (vec![], vec![1, 22, 23]));
+    let done = hall(&["check", TOWER, "--profile", &bench]);
+    assert_eq!(done.status, Some(1));
+    assert!(done.text().contains(": expected strong 0,2,0 = 15, given 0\n"), "{}", done.text());
 }
 
 #[test]

@@ -7,7 +7,7 @@ use redstone::{Kind, PROFILE_BYTES, ROW_BYTES, Row};
 
 use hall::read;
 
-use crate::support::{file, folder, hall, hall_with, root, run, samples};
+use crate::support::{bench_samples, charging_samples, file, folder, hall, hall_with, root, run};
 
 /// `hall stream` of these files.
 fn stream(files: &[String]) -> Vec<u8> {
@@ -20,7 +20,7 @@ fn stream(files: &[String]) -> Vec<u8> {
 #[test]
 fn the_tables_stand_after_one_profile_each_led_by_its_row_count() {
     let mut expected = Vec::new();
-    for sample in samples() {
+    for sample in bench_samples() {
         let packed = hall(&["pack", &sample]).out;
         let (profile, table) = packed.split_at(PROFILE_BYTES);
         if expected.is_empty() {
@@ -29,7 +29,7 @@ fn the_tables_stand_after_one_profile_each_led_by_its_row_count() {
         expected.extend(((table.len() / ROW_BYTES) as u32).to_le_bytes());
         expected.extend(table);
     }
-    assert_eq!(stream(&samples()), expected);
+    assert_eq!(stream(&bench_samples()), expected);
 }
 
 #[test]
@@ -45,9 +45,14 @@ fn a_row_count_of_two_bytes_and_one_of_none() {
 
 #[test]
 fn the_month_has_the_rounds_of_each_hall() {
+    assert_month(&bench_samples());
+    assert_month(&charging_samples());
+}
+
+/// The month of a stream of these halls counts each by its rounds.
+fn assert_month(samples: &[String]) {
     let program = find("month").unwrap_or_else(|sentence| panic!("{sentence}"));
-    let samples = samples();
-    let done = run(&mut Command::new(program), &stream(&samples));
+    let done = run(&mut Command::new(program), &stream(samples));
     let text = done.text();
     assert!(text.starts_with(&format!("tables={}\nrefused=0\n", samples.len())), "{text}");
     assert!(text.ends_with("\nended=whole\n"), "{text}");

@@ -54,10 +54,27 @@ pub fn run(command: &mut Command, input: &[u8]) -> Done {
 
 /// The sample halls, as in `halls/vault-door.hall`.
 pub fn samples() -> Vec<String> {
+    [bench_samples(), charging_samples()].concat()
+}
+
+/// Those of the bench profile, as `halls/*.hall` names them.
+pub fn bench_samples() -> Vec<String> {
+    names("halls").into_iter().filter(|name| name != CHARGING).collect()
+}
+
+/// Those of the bench profile with the value by which torches charge the block above.
+pub fn charging_samples() -> Vec<String> {
+    names(CHARGING)
+}
+
+const CHARGING: &str = "halls/charging";
+
+/// What stands in a folder of the repository.
+fn names(folder: &str) -> Vec<String> {
     let name = |entry: std::io::Result<fs::DirEntry>| {
-        format!("halls/{}", entry.expect("an entry").file_name().to_str().expect("a name in UTF-8"))
+        format!("{folder}/{}", entry.expect("an entry").file_name().to_str().expect("a name in UTF-8"))
     };
-    let mut names: Vec<_> = fs::read_dir(root().join("halls")).expect("halls").map(name).collect();
+    let mut names: Vec<_> = fs::read_dir(root().join(folder)).expect(folder).map(name).collect();
     names.sort();
     names
 }

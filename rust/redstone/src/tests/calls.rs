@@ -2,8 +2,8 @@
 
 use super::{Lent, UNTOUCHED};
 use crate::{
-    Arm, BENCH_PROFILE, Kind, MOST_ROWS, ROW_BYTES, Refusal, Rounds, Row, STATE_BYTES, fresh, redraw, rows,
-    settle, supports, switch, table, tick,
+    Arm, BENCH_PROFILE, Device, Kind, MOST_ROWS, ROW_BYTES, Refusal, Rounds, Row, STATE_BYTES, fresh, redraw,
+    rows, settle, supports, switch, table, tick,
 };
 
 /// The number and the row of a refusal.
@@ -90,6 +90,61 @@ fn each_refusal_has_its_word_and_writes_nothing() {
         assert_eq!((refusal.number, refusal.row), (number, row));
         assert_eq!(refusal.kind().to_string(), word);
         assert!(refusal.to_string().starts_with(&format!("refusal {number}, {word}: ")), "{refusal}");
+    }
+}
+
+/// All that a call may write of a lamp with a lever on it, about to go out, and dust that nothing holds up.
+struct Buffers {
+    table: Vec<u8>,
+    state: Vec<u8>,
+    lent: Lent,
+    list: [u16; 3],
+}
+
+impl Buffers {
+    fn new() -> Self {
+        let dust = Row::new(Kind::RedstoneWire, [1, 0, 0]);
+        let state = [Device::Lamp { lit: true, ticks_left: 2 }, Device::None, Device::None];
+        Self {
+            table: [&lamp(true)[..], &dust.bytes()].concat(),
+            state: state.map(|device| device.bytes()).concat(),
+            lent: Lent::new(3),
+            list: [u16::MAX; 3],
+        }
+    }
+
+    fn untouched(&self) -> bool {
+        let new = Self::new();
+        (&self.table, &self.state, self.list) == (&new.table, &new.state, new.list) && self.lent.untouched()
+    }
+}
+
+/// A call under a profile, and what it is refused with. One that is not refused writes.
+type Call = fn(&[u8], &mut Buffers) -> Option<(u32, usize)>;
+
+const CALLS: [Call; 6] = [
+    |profile, of| refused(fresh(profile, &of.table, &mut of.state, of.lent.columns())),
+    |profile, of| refused(settle(profile, &of.table, &[0; 3], 17, of.lent.columns())),
+    |profile, of| refused(tick(profile, &of.table, &mut of.state, 0, 1, of.lent.columns())),
+    |profile, of| refused(switch(profile, &mut of.table, &of.state, [0, 1, 0], false, of.lent.columns())),
+    |profile, of| refused(redraw(profile, &mut of.table)),
+    |profile, of| refused(supports(profile, &of.table, &mut of.list)),
+];
+
+/// Air's byte may be 0, the torch's at most 63, and each other at most 31.
+#[test]
+fn a_profile_byte_is_refused_exactly_above_its_limit() {
+    for (kind, most) in [0, 31, 31, 31, 63, 31, 31, 31, 31, 31, 31, 31, 31].into_iter().enumerate() {
+        for value in 0..=u8::MAX {
+            let mut profile = BENCH_PROFILE;
+            profile[kind] = value;
+            for call in CALLS {
+                let mut buffers = Buffers::new();
+                let answer = call(&profile, &mut buffers);
+                assert_eq!(answer, (value > most).then_some((1, 0)), "byte {kind} is {value}");
+                assert_eq!(answer.is_some(), buffers.untouched(), "byte {kind} is {value}");
+            }
+        }
     }
 }
 

@@ -231,12 +231,16 @@ fn message(change: impl FnOnce(&mut Input)) -> String {
 fn each_reason_says_what_is_wrong_and_what_would_be_right() {
     assert_eq!(message(|input| input.profile.truncate(12)), "the profile has length 12; it must be 13");
     assert_eq!(
-        message(|input| input.profile[3] = 32),
-        "byte 3 of the profile, RedstoneWire's, is 32; it may be at most 31"
+        message(|input| input.profile[3] = 64),
+        "byte 3 of the profile, RedstoneWire's, is 64; it may be at most 31"
     );
     assert_eq!(
         message(|input| input.profile[0] = 1),
         "byte 0 of the profile, Air's, is 1; it may be at most 0"
+    );
+    assert_eq!(
+        message(|input| input.profile[4] = 64),
+        "byte 4 of the profile, RedstoneTorch's, is 64; it may be at most 63"
     );
     assert_eq!(message(|input| input.table.push(0)), "the table has length 65; it must be 32 for each row");
     assert_eq!(
@@ -289,6 +293,22 @@ fn each_reason_says_what_is_wrong_and_what_would_be_right() {
         message(|input| input.tick = u32::MAX),
         "tick 4294967295 plus 1 is past 4294967295, the last; 0 more can be asked for"
     );
+}
+
+/// Of a byte that another kind's may not have, and that is good without the torch's value.
+#[test]
+fn the_reason_says_whose_the_value_of_the_torch_is() {
+    let tip = ": take 32 off, which RedstoneTorch's alone may have";
+    assert_eq!(
+        message(|input| input.profile[7] = 32),
+        format!("byte 7 of the profile, Lever's, is 32; it may be at most 31{tip}")
+    );
+    for (kind, most) in [(0, 0), (1, 31), (3, 31), (4, 63), (5, 31), (12, 31)] {
+        for value in most + 1..=u8::MAX {
+            let is_said = message(|input| input.profile[kind] = value).ends_with(tip);
+            assert_eq!(is_said, kind != 4 && (32..=32 + most).contains(&value), "byte {kind} is {value}");
+        }
+    }
 }
 
 #[test]

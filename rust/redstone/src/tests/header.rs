@@ -5,7 +5,7 @@ use std::fmt::Display;
 use crate::c::{DECLARED, Parameter};
 use crate::{
     Arm, BENCH_PROFILE, FARTHEST, Facing, Kind, MOST_ROWS, PROFILE_BYTES, ROW_BYTES, Rounds, STATE_BYTES,
-    Shape,
+    Shape, TORCH_CHARGES_ABOVE,
 };
 
 const HEADER: &str = include_str!("../../include/redstone.h");
@@ -105,6 +105,7 @@ fn the_header_has_the_constants() {
         ("FARTHEST", FARTHEST as usize),
     ];
     let sizes = sizes.map(|(name, size)| (format!("REDSTONE_{name}"), size.to_string()));
+    let torch = ("REDSTONE_TORCH_CHARGES_ABOVE".to_owned(), TORCH_CHARGES_ABOVE.to_string());
     let profile = BENCH_PROFILE.map(|byte| byte.to_string()).join(", ");
     let profile = ("REDSTONE_BENCH_PROFILE".to_owned(), format!("{{{profile}}}"));
     let constants = sizes
@@ -113,7 +114,7 @@ fn the_header_has_the_constants() {
         .chain(codes("FACING", Facing::ALL))
         .chain(codes("ARM", Arm::ALL))
         .chain(codes("SHAPE", Shape::ALL))
-        .chain([profile]);
+        .chain([torch, profile]);
     let defined = defined().into_iter().map(|(name, value)| (name.to_owned(), value.to_owned()));
     assert_eq!(defined.collect::<Vec<_>>(), constants.collect::<Vec<_>>());
 }

@@ -1,6 +1,6 @@
 //! What the documentation says of filling in a table.
 
-use crate::{BENCH_PROFILE, Circuit, Device, Facing, Kind, Row, Shape};
+use crate::{BENCH_PROFILE, Circuit, Device, Facing, Kind, PROFILE_BYTES, Row, Shape, TORCH_CHARGES_ABOVE};
 
 fn circuit(rows: impl IntoIterator<Item = Row>) -> Circuit {
     Circuit::new(&BENCH_PROFILE, rows).expect("an accepted table")
@@ -123,4 +123,86 @@ fn strong_power_alone_drives_dust() {
     let lever = Row::new(Kind::Lever, [1, 1, 0]).with_powered(true).with_support([0, -1, 0]);
     let (_, strong, level) = below(&[lever]);
     assert_eq!((strong, level), (15, 15));
+}
+
+/// The bench profile with these values for the torch.
+fn with_torch(values: u8) -> [u8; PROFILE_BYTES] {
+    let mut profile = BENCH_PROFILE;
+    profile[usize::from(Kind::RedstoneTorch.code())] = values;
+    profile
+}
+
+/// The strong power of a block over a torch.
+fn over_torch(profile: &[u8], torch: Row, block: Row) -> u8 {
+    let rows = [torch.with_position([0, 0, 0]), block.with_position([0, 1, 0])];
+    strong(&Circuit::new(profile, rows).expect("an accepted table"), [0, 1, 0])
+}
+
+const TORCH: Row = Row::new(Kind::RedstoneTorch, [0, 0, 0]);
+const SOLID: Row = Row::new(Kind::Solid, [0, 0, 0]);
+
+/// Whatever else the torch's byte has, and whatever the torch's shape and support are.
+#[test]
+fn a_lit_torch_charges_the_block_above_by_its_value_of_the_profile() {
+    for values in 0..=63 {
+        let charged = if values & TORCH_CHARGES_ABOVE == 0 { 0 } else { 15 };
+        let profile = with_torch(values);
+        for &shape in Shape::ALL {
+            for support in [None, Some([0, -1, 0]), Some([1, 0, 0]), Some([0, 1, 0])] {
+                let torch = TORCH.with_shape(shape).with_support(support);
+                assert_eq!(over_torch(&profile, torch, SOLID), charged, "{values}, {torch:?}");
+                assert_eq!(over_torch(&profile, torch.with_powered(false), SOLID), 0, "{values}, {torch:?}");
+            }
+        }
+    }
+}
+
+#[test]
+fn a_torch_charges_what_receives_strong_power_alone() {
+    for &kind in Kind::ALL {
+        for values in 0..=31 {
+            let mut profile = with_torch(TORCH_CHARGES_ABOVE);
+            profile[usize::from(kind.code())] |= values;
+            let receives = profile[usize::from(kind.code())] & 4 != 0;
+            for &shape in Shape::ALL {
+                let charged = match shape {
+                    Shape::Plain => receives,
+                    shape => shape == Shape::DoubleSlab,
+                };
+                let block = Row::new(kind, [0, 0, 0]).with_shape(shape);
+                let strong = over_torch(&profile, TORCH, block);
+                assert_eq!(strong, if charged { 15 } else { 0 }, "{values}, {block:?}");
+            }
+        }
+    }
+}
+
+#[test]
+fn a_torch_charges_no_other_place_than_the_one_above() {
+    let steps = -2..=2;
+    let places = steps.clone().flat_map(|x| steps.clone().flat_map(move |y| [-1, 0, 1].map(|z| [x, y, z])));
+    let around: Vec<_> = places.filter(|place| *place != [0, 0, 0]).collect();
+    let rows = around.iter().map(|place| SOLID.with_position(*place)).chain([TORCH]);
+    let circuit = Circuit::new(&with_torch(TORCH_CHARGES_ABOVE), rows).expect("an accepted table");
+    for place in around {
+        assert_eq!(strong(&circuit, place), if place == [0, 1, 0] { 15 } else { 0 }, "{place:?}");
+    }
+}
+
+/// Each torch stands on the block that the one below charges.
+#[test]
+fn a_torch_tower_turns_round_at_each_torch() {
+    let lever = Row::new(Kind::Lever, [-1, 0, 0]).with_support([1, 0, 0]);
+    let blocks = [0, 2, 4].map(|y| SOLID.with_position([0, y, 0]));
+    let torches = [1, 3, 5].map(|y| TORCH.with_position([0, y, 0]).with_support([0, -1, 0]));
+    let dust = [SOLID.with_position([0, 6, 0]), Row::new(Kind::RedstoneWire, [0, 7, 0])];
+    let rows = [lever].into_iter().chain(blocks).chain(torches).chain(dust);
+    let mut circuit = Circuit::new(&with_torch(TORCH_CHARGES_ABOVE), rows).expect("an accepted table");
+    let mut at_rest = |on| {
+        circuit.switch([-1, 0, 0], on).expect("accepted");
+        circuit.tick(3).expect("accepted");
+        ([1, 3, 5].map(|y| signal(&circuit, [0, y, 0])), signal(&circuit, [0, 7, 0]))
+    };
+    assert_eq!(at_rest(false), ([15, 0, 15], 15));
+    assert_eq!(at_rest(true), ([0, 15, 0], 0));
 }
