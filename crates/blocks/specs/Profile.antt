@@ -1,5 +1,5 @@
 -- The profile: "13 bytes, one per kind from 0, sums of: 1 supports components, 2 receives weak power, 4 receives strong power,
--- 8 repeater reads block power, 16 strong power drives dust", and 32 "for the torch only".
+-- 8 repeater reads block power, 16 strong power drives dust"; and "for the torch only" 32, by which a lit torch charges the block above.
 -- Assumes nothing.
 use mathlib.Core.Bool.{Bool}
 use mathlib.Core.List.{[], _∷_}
@@ -29,7 +29,7 @@ readsBlockPower = says 8
 abbrev pub drivesDust : Bytes → ℕ → Bool
 drivesDust = says 16
 
--- "Profile value 32 is added for the torch only"
+-- "Profile value 32 is added for the torch only": a lit torch charges the block above
 abbrev pub torchChargesAbove : Bytes → Bool
 torchChargesAbove profile = says 32 profile RedstoneTorch
 

@@ -18,7 +18,7 @@ use Rattle.arms.specs.Arms.{connects, componentConnects, joins, rises, drops, i
 use Rattle.wire.specs.Transfer.{fitsHorizontal, fitsRise, fitsFall, fits, ruleAlong, firstRule, transferBy, dustTransfer, transmitsBy}
 use Rattle.redraw.specs.Redraw.{entryOf, entriesOf, withOpposite, drawn, redrawnRow, updateWireShapes}
 use Rattle.emitted.specs.Emitted.{goodDevice, checkDevices, switchLevel, emittedLevel, emitted}
-use Rattle.edges.specs.Edges.{outputsTo, isSupportOf, isCharged, isOverTorch, emittedToStrong, strongToWeak, armTo, alongArm, touches, feeds, dustToWeakBy, emittedToDustBy, strongToDustBy, networkOf}
+use Rattle.edges.specs.Edges.{outputsTo, isSupportOf, isNextToRedstoneBlock, isOverTorch, emittedToStrong, strongToWeak, armTo, alongArm, touches, feeds, dustToWeakBy, emittedToDustBy, strongToDustBy, networkOf}
 use Rattle.electrical.specs.Answer.{roundsOf, settled, checkCall, checkSettle}
 use Rattle.states.specs.Row.{delayOf, bitsSet, isCandidate, goodQueue, goodLamp, goodTorch, goodState}
 use Rattle.fresh.specs.Fresh.{freshDevice, freshQueue, freshLamp, freshRow}
@@ -40,5 +40,5 @@ use Rattle.totals.specs.Month.{monthOf}
 use Rattle.month_lines.specs.Lines.{numberedLine, numberedLines, monthText, textOf, outputOf as monthOutput}
 
 unfoldable pub computing : ℕ
-unfolding tabulateFrom concatRowsFrom same firstFrom indicesFrom settling says signed32 signed8 clamp32 satAdd samePos before opposite step horizontalOffset beside adjacent posOf supportOf armEntry storedArm firstAtOrPast find kindAt plain ofShape traits traitsAt goodProfile goodPlace goodRow checkRows checkTable checkInput isSupported lacksSupport supportIssues checkSupports ahead outputOf inputOf across sidesOf connects componentConnects joins rises drops inferPast inferWireConnection armOf hasArm fitsHorizontal fitsRise fitsFall fits ruleAlong firstRule transferBy dustTransfer transmitsBy entryOf entriesOf withOpposite drawn redrawnRow updateWireShapes goodDevice checkDevices switchLevel emittedLevel emitted outputsTo isSupportOf isCharged isOverTorch emittedToStrong strongToWeak armTo alongArm touches feeds dustToWeakBy emittedToDustBy strongToDustBy networkOf roundsOf settled checkCall checkSettle devicesOf delayOf bitsSet isCandidate goodQueue goodLamp goodTorch goodState checkState freshDevice freshDevices freshQueue freshLamp freshRow freshState repeaterInputLevel isRequested locksFrom isLocked nextQueue repeaterRow torchSupportIsPowered nextToggles nextCandidate torchRow compared nextComparator deviceRow nextLit nextLeft lampRow withDevices withLamps settledOf setDevices setLamps tick ticks checkFresh checkStep checkTick switched decimalWithin decimalOf signedText lineOf rowText settledText refusalText checkRun checkWhole runText settleText readWithin streamOf asStream countBelow sumOf figuresOf monthOf numberedLine numberedLines monthText textOf monthOutput
+unfolding tabulateFrom concatRowsFrom same firstFrom indicesFrom settling says signed32 signed8 clamp32 satAdd samePos before opposite step horizontalOffset beside adjacent posOf supportOf armEntry storedArm firstAtOrPast find kindAt plain ofShape traits traitsAt goodProfile goodPlace goodRow checkRows checkTable checkInput isSupported lacksSupport supportIssues checkSupports ahead outputOf inputOf across sidesOf connects componentConnects joins rises drops inferPast inferWireConnection armOf hasArm fitsHorizontal fitsRise fitsFall fits ruleAlong firstRule transferBy dustTransfer transmitsBy entryOf entriesOf withOpposite drawn redrawnRow updateWireShapes goodDevice checkDevices switchLevel emittedLevel emitted outputsTo isSupportOf isNextToRedstoneBlock isOverTorch emittedToStrong strongToWeak armTo alongArm touches feeds dustToWeakBy emittedToDustBy strongToDustBy networkOf roundsOf settled checkCall checkSettle devicesOf delayOf bitsSet isCandidate goodQueue goodLamp goodTorch goodState checkState freshDevice freshDevices freshQueue freshLamp freshRow freshState repeaterInputLevel isRequested locksFrom isLocked nextQueue repeaterRow torchSupportIsPowered nextToggles nextCandidate torchRow compared nextComparator deviceRow nextLit nextLeft lampRow withDevices withLamps settledOf setDevices setLamps tick ticks checkFresh checkStep checkTick switched decimalWithin decimalOf signedText lineOf rowText settledText refusalText checkRun checkWhole runText settleText readWithin streamOf asStream countBelow sumOf figuresOf monthOf numberedLine numberedLines monthText textOf monthOutput
 computing = 0

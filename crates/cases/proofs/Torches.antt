@@ -1,6 +1,7 @@
 -- Document 02, Change 3, computed: what a torch charges with profile value 32 and without, and which profiles are refused.
 -- Assumes nothing.
-use mathlib.Core.Path.{refl}
+use mathlib.Core.Path.{_≡_, refl}
+use mathlib.Core.Bool.{false}
 use mathlib.Core.List.{List, [], _∷_, _++_}
 use Prim.Native.Nat.{ℕ, _≤_}
 use native.Mathlib.Omega.{arith}
@@ -10,8 +11,11 @@ use lib.IntN.{pos, negsuc}
 use Rattle.columns.specs.Column.{Bytes, Column, row, tabulate}
 use Rattle.blocks.specs.Kind.{Solid, Transparent, RedstoneWire, RedstoneTorch, Repeater, Comparator, RedstoneLamp}
 use Rattle.blocks.specs.Profile.{benchProfile}
+use Rattle.blocks.proofs.Values.{withoutValue}
 use Rattle.places.specs.Places.{East, West}
 use Rattle.world.specs.Rows.{rows}
+use Rattle.layout.specs.Good.{goodProfile}
+use Rattle.layout.proofs.Profiles.{goodProfile01, reach-63, past-63}
 use Rattle.refusals.specs.Check.{answerOf, checkInput}
 use Rattle.electrical.specs.Answer.{roundsOf, settled}
 use Rattle.electrical.proofs.Torches.{OverLitTorch, torch-charges}
@@ -183,3 +187,12 @@ is-over = record { torch-inside = omega arith; inside = omega arith; is-torch = 
 charged : 15 ≤ row (settled valued underSolid (freshDevices underSolid) .strong) 1
 unfolding computing valued with
 charged = torch-charges refl is-over
+
+-- `reach-63` and `past-63`, of profiles that meet their hypotheses
+reached : goodProfile (with RedstoneTorch 63) ≡ goodProfile01 (withoutValue (with RedstoneTorch 63))
+unfolding with
+reached = reach-63 (with RedstoneTorch 63) (omega arith)
+
+passed : goodProfile (with RedstoneTorch 64) ≡ false
+unfolding with
+passed = past-63 (with RedstoneTorch 64) (omega arith)

@@ -4,7 +4,7 @@ use mathlib.Core.Path.{_≡_, refl, ap, sym, _∙_}
 use mathlib.Core.Logic.{_⊎_, inl, inr, ⊎-elim}
 use mathlib.Core.Bool.{Bool, true, false, _&&_, true≢false}
 use Prim.Native.Nat.{ℕ, zero, suc, _+_, _-_, _≤_, _<_}
-use native.Mathlib.Nat.{eq-or-lt-of-le, not-suc-le-zero, le-of-suc-le-suc}
+use native.Mathlib.Nat.{le-refl, eq-or-lt-of-le, not-suc-le-zero, le-of-suc-le-suc}
 use native.Mathlib.Numerals.{add-one}
 use native.Mathlib.Omega.{arith}
 use Rattle.columns.specs.declared.Found.the-variants.{At, Nothing}
@@ -94,6 +94,11 @@ all-more f k h e = rw (add-one k, h, e)
 pub all-fails : (f : ℕ → Bool) (n k : ℕ) → k < n → f k ≡ false → allBelow f n ≡ false
 all-fails f zero k h e = absurd (not-suc-le-zero h)
 all-fails f (suc n) k h e = ⊎-elim (λ p. and-false-right (allBelow f n) (f n) (rw (← p) e)) (λ l. and-false-left (allBelow f n) (f n) (all-fails f n k l e)) (eq-or-lt-of-le (le-of-suc-le-suc h))
+
+-- two tests that answer alike below n
+pub all-same : (f g : ℕ → Bool) (n : ℕ) → ((k : ℕ) → k < n → f k ≡ g k) → allBelow f n ≡ allBelow g n
+all-same f g zero h = refl
+all-same f g (suc n) h = rw (all-same f g n (λ k l. h k (omega arith)), h n (le-refl _)) refl
 
 -- what holds of all below n holds of each
 pub all-at : (f : ℕ → Bool) (n : ℕ) → allBelow f n ≡ true → (k : ℕ) → k < n → f k ≡ true

@@ -20,7 +20,7 @@ use Rattle.connectivity.specs.Ports.{outputOf}
 use Rattle.wire.specs.Transfer.{transmitsBy}
 use Rattle.wire.proofs.Same.{SameRow, same-transmits}
 use Rattle.wire.proofs.Alike.{Alike, same-rows, same-kind, same-facing, same-place, same-traits, same-around}
-use Rattle.edges.specs.Edges.{outputsTo, isSupportOf, isCharged, isOverTorch, feeds, emittedToStrong, strongToWeak, armTo, alongArm, touches, dustToWeakBy, emittedToDustBy, strongToDustBy, networkBy}
+use Rattle.edges.specs.Edges.{outputsTo, isSupportOf, isNextToRedstoneBlock, isOverTorch, feeds, emittedToStrong, strongToWeak, armTo, alongArm, touches, dustToWeakBy, emittedToDustBy, strongToDustBy, networkBy}
 
 pub power-on-map : (arm : ℕ → ℕ → ℕ) (p t : Bytes) → PowerOnMap (networkBy arm p t)
 unfolding networkBy emittedToStrong strongToWeak dustToWeakBy
@@ -56,7 +56,7 @@ module _ {a b : ℕ → ℕ → ℕ} {t u : Bytes} (s : Alike t u) (supports : (
     same-feeds = rw (same-kind s j, same-outputs)
 
     same-strong : emittedToStrong p t j i ≡ emittedToStrong p u j i
-    unfolding emittedToStrong isSupportOf isCharged isOverTorch
+    unfolding emittedToStrong isSupportOf isNextToRedstoneBlock isOverTorch
     same-strong = rw (same-traits s p i, same-outputs, same-kind s j, supports j, same-place s j, same-place s i)
 
     same-strongToWeak : strongToWeak p t j i ≡ strongToWeak p u j i

@@ -30,8 +30,12 @@ module _ (t : Bytes) (j i : ℕ) where
   isSupportOf = isSwitch (kindOf t j) && isAt (supportOf t j) (posOf t i)
 
   -- row i is one of the six neighbours of the redstone block j
-  unfoldable pub isCharged : Bool
-  isCharged = eqb (kindOf t j) RedstoneBlock && adjacent (posOf t j) (posOf t i)
+  unfoldable pub isNextToRedstoneBlock : Bool
+  isNextToRedstoneBlock = eqb (kindOf t j) RedstoneBlock && adjacent (posOf t j) (posOf t i)
+
+  -- row i is the block above the torch j, of any shape, lit or not: what an unlit torch emits is 0
+  unfoldable pub isOverTorch : Bool
+  isOverTorch = eqb (kindOf t j) RedstoneTorch && samePos (above (posOf t j)) (posOf t i)
 
   -- row i being dust, "the emitted level of lever, button, plate, torch, redstone block, or of a repeater or comparator whose output is
   -- this dust"
@@ -39,16 +43,13 @@ module _ (t : Bytes) (j i : ℕ) where
   feeds = isSource (kindOf t j) || outputsTo
 
 module _ (p t : Bytes) (j i : ℕ) where
-  -- with profile value 32 "a lit torch of any shape gives strong power 15 to the block above", which is row i: row j is a torch,
-  -- and what it emits is 15 lit and else 0
-  unfoldable pub isOverTorch : Bool
-  isOverTorch = eqb (kindOf t j) RedstoneTorch && (torchChargesAbove p && samePos (above (posOf t j)) (posOf t i))
-
   -- "Strong power: lever, button, plate reach their support, repeater and comparator their output, redstone block its six
-  -- neighbours, where the target receives strong", and with profile value 32 a torch the block above
+  -- neighbours, where the target receives strong"; and with profile value 32 "a lit torch of any shape gives strong power 15 to the
+  -- block above where that block receives strong"
   unfoldable pub emittedToStrong : Bool
   emittedToStrong =
-      traits p t i .strong && (isSupportOf t j i || (outputsTo t j i || (isCharged t j i || isOverTorch)))
+      traits p t i .strong
+      && (isSupportOf t j i || (outputsTo t j i || (isNextToRedstoneBlock t j i || (torchChargesAbove p && isOverTorch t j i))))
 
   -- "a strongly powered block reaches its six neighbours .. where the target receives weak"
   unfoldable pub strongToWeak : Bool

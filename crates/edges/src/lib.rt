@@ -19,7 +19,7 @@ ghost use Rattle.blocks.specs.Kind.{isSwitch};
 ghost use Rattle.places.specs.Places.{beside, below, samePos, adjacent, isAt};
 ghost use Rattle.world.specs.Rows.{posOf};
 ghost use Rattle.arms.specs.Arms.{armOf};
-ghost use Rattle.edges.specs.Edges.{outputsTo, isSupportOf, isCharged, isOverTorch, emittedToStrong, strongToWeak, armTo, alongArm, dustToWeak, touches, feeds, emittedToDust, strongToDust};
+ghost use Rattle.edges.specs.Edges.{outputsTo, isSupportOf, isNextToRedstoneBlock, isOverTorch, emittedToStrong, strongToWeak, armTo, alongArm, dustToWeak, touches, feeds, emittedToDust, strongToDust};
 
 // Lever, button and plate.
 fn is_switch(kind: u8) -> bool
@@ -78,8 +78,8 @@ fn is_support_of(table: &[u8], j: usize, i: usize) -> bool
 }
 
 // Whether row i is a neighbour of the redstone block j.
-fn is_charged(table: &[u8], j: usize, i: usize) -> bool
-    ensures { λ r. ⌜ r ≡ isCharged (now (table .entry)) j i ⌝ }
+fn is_next_to_redstone_block(table: &[u8], j: usize, i: usize) -> bool
+    ensures { λ r. ⌜ r ≡ isNextToRedstoneBlock (now (table .entry)) j i ⌝ }
 {
     if kind_of(table, j) == kind::REDSTONE_BLOCK {
         return is_adjacent(pos_of(table, j), pos_of(table, i));
@@ -87,27 +87,25 @@ fn is_charged(table: &[u8], j: usize, i: usize) -> bool
     false
 }
 
-// Whether row j is a torch that charges the block above it, and row i is that block.
-fn is_over_torch(profile: &[u8], table: &[u8], j: usize, i: usize) -> bool
-    ensures { λ r. ⌜ r ≡ isOverTorch (now (profile .entry)) (now (table .entry)) j i ⌝ }
+// Whether row i is the block above the torch j.
+fn is_over_torch(table: &[u8], j: usize, i: usize) -> bool
+    ensures { λ r. ⌜ r ≡ isOverTorch (now (table .entry)) j i ⌝ }
 {
-    if kind_of(table, j) != kind::REDSTONE_TORCH {
-        return false;
-    }
-    if torch_charges_above(profile) {
+    if kind_of(table, j) == kind::REDSTONE_TORCH {
         return pos_of(table, j).above().same(pos_of(table, i));
     }
     false
 }
 
-// Strong power: from a switch to its support, from a device to its output, from a redstone block to its neighbours, from a torch to
-// the block above it.
+// Strong power: from a switch to its support, from a repeater or comparator to its output, from a redstone block to its neighbours
+// and, where the profile says so, from a torch to the block above it.
 pub fn emitted_to_strong(profile: &[u8], table: &[u8], j: usize, i: usize) -> bool
     ensures { λ r. ⌜ r ≡ emittedToStrong (now (profile .entry)) (now (table .entry)) j i ⌝ }
 {
     if is_support_of(table, j, i)
         | (outputs_to(table, j, i)
-            | (is_charged(table, j, i) | is_over_torch(profile, table, j, i)))
+            | (is_next_to_redstone_block(table, j, i)
+                | (torch_charges_above(profile) & is_over_torch(table, j, i))))
     {
         return redstone_traits(profile, table, i).strong;
     }

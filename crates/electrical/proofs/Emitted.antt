@@ -1,6 +1,6 @@
 -- Laws of the emitted levels: they rise with the device bytes, and fit a byte.
 -- Assumes nothing.
-use mathlib.Core.Path.{ap, _∙_}
+use mathlib.Core.Path.{_≡_, ap, _∙_}
 use mathlib.Core.Bool.{Bool, true, false, cond}
 use mathlib.Core.Logic.{by-cases}
 use Prim.Native.Nat.{ℕ, zero, suc, _≤_, zero-le}
@@ -8,6 +8,7 @@ use native.Mathlib.Nat.{le-refl, le-trans, min-le-left}
 use native.Mathlib.Decide.{decLt}
 use native.Mathlib.Omega.{arith}
 use lib.Dec.{eqb, eqb·suc-zero}
+use borrow.Author.Tests.{ne-eqb}
 use Rattle.columns.specs.Column.{Bytes, Column, row}
 use Rattle.columns.specs.Signal.{maxSignal}
 use Rattle.network.specs.Compare.{Larger, AtEveryRow₃}
@@ -44,13 +45,21 @@ either : (c : Bool) {x y m : ℕ} → x ≤ m → y ≤ m → cond c x y ≤ m
 either true g h = g
 either false g h = h
 
--- an emitted level is at most the cap, or the device byte
-pub level-byte : (t : Bytes) (i b m : ℕ) → maxSignal ≤ m → b ≤ m → emittedLevel t i b ≤ m
+-- an emitted level is at most the cap, or what a comparator gives,
+level-given : (t : Bytes) (i b m : ℕ) → maxSignal ≤ m → cond (eqb (kindOf t i) Comparator) b 0 ≤ m → emittedLevel t i b ≤ m
 unfolding emittedLevel switchLevel
-level-byte t i b m cap h =
+level-given t i b m cap h =
     either (eqb (kindOf t i) RedstoneBlock) cap
     (either (isSwitch (kindOf t i)) (either (isPowered t i) (le-trans (min-le-left 15 _) cap) zero-le)
-    (either (isOnOff (kindOf t i)) (either (eqb b 0) zero-le cap) (either (eqb (kindOf t i) Comparator) h zero-le)))
+    (either (isOnOff (kindOf t i)) (either (eqb b 0) zero-le cap) h))
+
+-- which is the device byte,
+pub level-byte : (t : Bytes) (i b m : ℕ) → maxSignal ≤ m → b ≤ m → emittedLevel t i b ≤ m
+level-byte t i b m cap h = level-given t i b m cap (either (eqb (kindOf t i) Comparator) h zero-le)
+
+-- and nothing of any other kind
+pub level-capped : (t : Bytes) (i b : ℕ) → ¬ (kindOf t i ≡ Comparator) → emittedLevel t i b ≤ maxSignal
+level-capped t i b n = level-given t i b maxSignal (le-refl maxSignal) (rw (ne-eqb (kindOf t i) Comparator n) zero-le)
 
 -- and so is a row of the column of them
 pub emitted-byte : (t : Bytes) (d : Column) (m : ℕ) → maxSignal ≤ m → ((i : ℕ) → row d i ≤ m) → (i : ℕ) → row (emitted t d) i ≤ m

@@ -1,2 +1,3 @@
--- Laws of good rows.
+-- Laws of good rows and good profiles.
 pub mod Fields
+pub mod Profiles

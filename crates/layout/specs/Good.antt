@@ -12,15 +12,15 @@ use Rattle.blocks.specs.Kind.{RedstoneTorch}
 use Rattle.places.specs.declared.Pos.{Pos}
 use Rattle.world.specs.Rows.{byteOf, posOf}
 
--- the most that the profile may have for a kind: "Number 1 now lets the torch's byte reach 63"; any other may reach 31
+-- the most that the byte of a kind may be, "a byte above 31" being number 1: "Number 1 now lets the torch's byte reach 63"
 abbrev pub mostOf : ℕ → ℕ
 mostOf kind = cond (eqb kind RedstoneTorch) 63 31
 
--- each of the 13 bytes is at most that
+-- none of the 13 bytes is above the most of its kind
 abbrev pub lowBytes : Bytes → Bool
 lowBytes p = allBelow (λ k. leb (getD p k 0) (mostOf k)) 13
 
--- 1 profile: "not 13 bytes, Air not 0, or a byte above 31", the torch's above 63, is none of it
+-- number 1 does not fall on the profile: "not 13 bytes, Air not 0, or a byte above 31", the torch's above 63
 unfoldable pub goodProfile : Bytes → Bool
 goodProfile p = eqb (length p) 13 && (eqb (getD p 0 0) 0 && lowBytes p)
 

@@ -8,7 +8,7 @@ ghost use Prim.Native.Nat.{_<_};
 ghost use lib.IntN.{ℤ};
 ghost use Rattle.layout.specs.Good.{mostOf, lowBytes, goodProfile, inRange, goodPlace, goodKind, goodValue, isUnit, goodSupport, goodArms, goodTail, goodRow};
 
-// All values of a kind together, and all of the torch, which has one more.
+// The sum of all values of a kind; the torch has one value more.
 const ALL: u8 = 31;
 
 const ALL_OF_TORCH: u8 = 63;
@@ -24,7 +24,7 @@ fn most_of(kind: usize) -> u8
     }
 }
 
-// Whether each of the 13 bytes is at most that.
+// Whether none of the 13 bytes is above the most of its kind.
 fn low_bytes(profile: &[u8]) -> bool
     ensures { λ r. ⌜ r ≡ lowBytes (now (profile .entry)) ⌝ }
 {

@@ -71,7 +71,7 @@ module _ (N : Network) (e : Column) where
 
   -- ---- strong power, power off the map, and the largest numbers
 
-  -- Strong power is the largest emitted level that reaches the row so.
+  -- Settled strong power at a row is the largest emitted level with an edge of strong power to it.
   pub settled-strong : (i : ℕ) → i < N .size → row (settled N e .strong) i ≡ arriving (N .size) (N .emittedToStrong) (row e) i
   unfolding round strongOf
   settled-strong i l = rw (← settled-again) (row-tabulate (N .size) _ i l)

@@ -25,7 +25,7 @@ rowNumber Nothing = 18446744073709551615
 abbrev pub bit : Bool → ℕ → ℕ
 bit b value = cond b value 0
 
--- the sum of the values that a profile's byte is made of
+-- the properties as a sum of document 01's values; value 32 of the torch's byte is no property
 abbrev pub propertiesNumber : BlockProperties → ℕ
 propertiesNumber r =
     bit (r .«supports_components») 1 + bit (r .«receives_weak_power») 2 + bit (r .«receives_strong_power») 4

@@ -9,13 +9,6 @@ use Rattle.edges.proofs.is_over_torch.Tie as tie
 kind-of-requires : tie.Need-kind-of-requires
 kind-of-requires c κs = search needs
 
-returns : tie.Need-returns
-unfolding isOverTorch
-returns c = rw (← c .before .kind-of .ensures, ne-eqb _ 4 (c .if1 .taken))
-
-torch-charges-above-requires : tie.Need-torch-charges-above-requires
-torch-charges-above-requires c κs = search needs
-
 pos-of-requires : tie.Need-pos-of-requires
 pos-of-requires c κs = search needs
 
@@ -28,29 +21,25 @@ pos-of-requires-2 c κs = search needs
 same-requires : tie.Need-same-requires
 same-requires c κs = search needs
 
-returns-2 : tie.Need-returns-2
+returns : tie.Need-returns
 unfolding isOverTorch
-returns-2 c =
-    let charges = c .before .before .before .before in
-    let torch = charges .before .before in
-    rw (eq-eqb _ 4 (sym (torch .before .kind-of .ensures) ∙ torch .if1 .left), ← charges .before .torch-charges-above .ensures, charges .if2 .taken, ← c .before .before .before .pos-of .ensures, ← c .before .before .above .ensures, ← c .before .pos-of2 .ensures)
+returns c =
+    let torch = c .before .before .before .before in
+    rw (eq-eqb _ 4 (sym (torch .before .kind-of .ensures) ∙ torch .if1 .taken), ← c .before .before .before .pos-of .ensures, ← c .before .before .above .ensures, ← c .before .pos-of2 .ensures)
     (c .same .ensures)
 
-returns-3 : tie.Need-returns-3
+returns-2 : tie.Need-returns-2
 unfolding isOverTorch
-returns-3 c =
-    rw (eq-eqb _ 4 (sym (c .before .before .before .kind-of .ensures) ∙ c .before .before .if1 .left), ← c .before .torch-charges-above .ensures, c .if2 .left)
+returns-2 c = rw (← c .before .kind-of .ensures, ne-eqb _ 4 (c .if1 .left))
 
 pub is-over-torch-spec : {M : Type 1} → statement M
 is-over-torch-spec =
     tie.close
     (tie.spec
     kind-of-requires
-    returns
-    torch-charges-above-requires
     pos-of-requires
     above-requires
     pos-of-requires-2
     same-requires
-    returns-2
-    returns-3)
+    returns
+    returns-2)

@@ -2,7 +2,7 @@
 -- Proved laws: nobody has to believe them, or read them to know what is promised. Assumes nothing.
 use mathlib.Core.Path.{_≡_, refl}
 use mathlib.Core.Logic.{⊎-elim}
-use mathlib.Core.Bool.{Bool, true, false, cond, _&&_}
+use mathlib.Core.Bool.{Bool, true, false, cond, _&&_, _||_}
 use mathlib.Core.List.{List, [], _∷_, List·Memᴰ, List·Memᴰ·not-nil, List·Memᴰ·cases-cons}
 use Prim.Native.Nat.{ℕ, zero, suc, _+_, _≤_, _<_, max, zero-le}
 use native.Mathlib.Nat.{le-refl, le-trans, le-of-eq, le-antisymm, not-suc-le-zero, le-max-left, le-max-right, max-le, le-of-suc-le-suc, eq-or-lt-of-le}
@@ -82,3 +82,17 @@ module _ (n : ℕ) (edge : ℕ → ℕ → Bool) (f : ℕ → ℕ) (i : ℕ) whe
       go : (j : ℕ) → j < n → (t : Bool) → edge j i ≡ t → cond t (f j) 0 ≤ best xs given
       go j l true q = le-trans (le-of-eq (rw (lt-ltb j n l, q) refl)) (le-best xs given j (h j l q))
       go j l false q = zero-le
+
+-- ---- by either of two edges
+
+or-largest : (x y : Bool) (v : ℕ) → cond (x || y) v 0 ≡ max (cond x v 0) (cond y v 0)
+or-largest true true v = omega arith
+or-largest true false v = omega arith
+or-largest false true v = omega arith
+or-largest false false v = omega arith
+
+pub arriving-or : (n : ℕ) (a b : ℕ → ℕ → Bool) (f : ℕ → ℕ) (i : ℕ)
+    → arriving n (λ j k. a j k || b j k) f i ≡ max (arriving n a f i) (arriving n b f i)
+unfolding arriving top
+arriving-or zero a b f i = omega arith
+arriving-or (suc n) a b f i = rw (arriving-or n a b f i, or-largest (a n i) (b n i) (f n)) (omega arith)
