@@ -6,6 +6,7 @@ pub mod compare;
 #[cfg(not(no_original))]
 pub mod connectivity;
 pub mod damage;
+pub mod devices;
 pub mod differences;
 pub mod disorder;
 pub mod generate;

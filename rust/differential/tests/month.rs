@@ -17,7 +17,7 @@ mod compared {
     use std::path::Path;
     use std::process::{Command, Stdio};
 
-    use differential::generate::{BENCH_PROFILE, Case};
+    use differential::generate::{BENCH_PROFILE, Case, TORCH};
     use differential::month::{Ended, Figures, MOST_TABLES, Month, expected, stream};
     use differential::program::{find, run, run_bytewise};
     use differential::suite::{at_least_good_cases, good_cases, with_damaged};
@@ -214,7 +214,16 @@ mod compared {
             assert_eq!(assert_agrees(&BENCH_PROFILE[..length]), refused, "{length} bytes");
         }
         for kind in 0..PROFILE_BYTES {
-            for (byte, is_good) in [(1, kind > 0), (31, kind > 0), (32, false), (255, false)] {
+            let is_torch = kind == TORCH;
+            for (byte, is_good) in [
+                (1, kind > 0),
+                (31, kind > 0),
+                (32, is_torch),
+                (33, is_torch),
+                (63, is_torch),
+                (64, false),
+                (255, false),
+            ] {
                 let mut profile = BENCH_PROFILE;
                 profile[kind] = byte;
                 let written = assert_agrees(&stream(&profile, &tables));

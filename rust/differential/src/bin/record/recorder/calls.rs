@@ -1,11 +1,12 @@
 //! Operations 10 to 13: settle, fresh, ticks and switch.
 
 use differential::compare::{Answer, Answers};
+use differential::devices::any_devices;
 use differential::generate::{BENCH_PROFILE, Case};
 use differential::oracle::Oracle;
 use differential::random::Random;
 use differential::redstone::{
-    Call, Input, OriginalRun, SIGNAL, STATE, STRONG, Step, TABLE, WEAK, any_devices, fresh_devices,
+    Call, Input, OriginalRun, SIGNAL, STATE, STRONG, Step, TABLE, WEAK, fresh_devices,
 };
 use differential::table::{self, Position};
 use redstone::{Kind, Row};
