@@ -1,4 +1,5 @@
-//! Copies the original's files to the build's own folder, with the few changes of `PATCHES`.
+//! Copies the original's files to the build's own folder, with the few changes of `PATCHES`, and electrical.rs without
+//! them, too.
 //!
 //! The files come from the folder that DUSTROUTE_SRC names or else from `shared/docs/src` beside the repository.
 //! Where neither is there, the crate is built empty (cfg `no_original`).
@@ -107,6 +108,7 @@ fn write_sources(source: &Path, out: &Path) {
     for (file, place) in FILES {
         write(&out.join(place), &patched(file, read(&source.join(file))));
     }
+    write(&out.join("unpatched.rs"), &read(&source.join(ELECTRICAL)));
     for (name, kind) in MISSING {
         write(&out.join(format!("blocks/{name}.rs")), &missing_profile(kind));
     }

@@ -85,11 +85,11 @@ type Sort = (&'static str, fn(&mut Random) -> Vec<Row>);
 /// The sorts of table, each with its share.
 const SORTS: [(usize, Sort); 10] = [
     (5, ("no rows", |_| Vec::new())),
-    (300, ("dense box", sorts::dense_box)),
+    (270, ("dense box", sorts::dense_box)),
     (170, ("dust line", sorts::dust_line)),
     (180, ("staircase", sorts::staircase)),
-    (150, ("devices", sorts::devices)),
-    (100, ("torches", torches::torches)),
+    (130, ("devices", sorts::devices)),
+    (150, ("torches", torches::torches)),
     (40, ("clock", sorts::clock)),
     (45, ("sparse", sorts::sparse)),
     (9, ("hundreds of rows", sorts::large_box)),

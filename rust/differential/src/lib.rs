@@ -28,6 +28,7 @@ pub mod report;
 pub mod settle;
 pub mod suite;
 pub mod table;
+pub mod torch;
 #[cfg(not(no_original))]
 pub mod wire;
 #[cfg(not(no_original))]
