@@ -15,24 +15,22 @@ fn case(sort: &'static str, rows: impl IntoIterator<Item = Row>) -> Case {
     Case::new(sort, BENCH_PROFILE, rows)
 }
 
-/// A lever on a lamp feeds a dust through a repeater and a comparator, and a torch hangs on the dust and has a block
-/// over it.
+/// A lever on a lamp feeds a dust through a repeater and a comparator, and a torch that hangs on the dust charges the
+/// block over it.
 fn small(sort: &'static str) -> Case {
     let lever = Row::new(Kind::Lever, [0, 1, 0]).with_support([0, -1, 0]);
     let east = |x, kind| Row::new(kind, [x, 1, 0]).with_facing(Facing::East);
     let arms = [None, Some(Arm::Side), Some(Arm::None), Some(Arm::Up)];
-    case(
-        sort,
-        [
-            Row::new(Kind::RedstoneLamp, [0, 0, 0]),
-            lever.with_powered(true).with_power_level(9),
-            east(1, Kind::Repeater).with_delay(3),
-            east(2, Kind::Comparator).with_subtract(true),
-            Row::new(Kind::RedstoneWire, [3, 1, 0]).with_arms(arms),
-            Row::new(Kind::RedstoneTorch, [3, 1, 1]).with_support([0, 0, -1]),
-            Row::new(Kind::Solid, [3, 2, 1]),
-        ],
-    )
+    let rows = [
+        Row::new(Kind::RedstoneLamp, [0, 0, 0]),
+        lever.with_powered(true).with_power_level(9),
+        east(1, Kind::Repeater).with_delay(3),
+        east(2, Kind::Comparator).with_subtract(true),
+        Row::new(Kind::RedstoneWire, [3, 1, 0]).with_arms(arms),
+        Row::new(Kind::RedstoneTorch, [3, 1, 1]).with_support([0, 0, -1]),
+        Row::new(Kind::Solid, [3, 2, 1]),
+    ];
+    case(sort, rows).with_torch_charging(true)
 }
 
 /// The number of its last row.
