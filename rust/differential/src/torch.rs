@@ -1,7 +1,7 @@
 //! The charge of the block above a torch, held to a second reading of document 02's Change 3.
 
 mod misreadings;
-mod tries;
+mod trials;
 
 use redstone::{Circuit, Kind, Row, Shape, TORCH_CHARGES_ABOVE};
 
@@ -14,7 +14,7 @@ use crate::random::Random;
 use crate::table::{self, ABOVE, Position, moved};
 
 pub use misreadings::{MISREADINGS, Misreading};
-pub use tries::{BYTES, Pair, TRIES, Try, pairs, profile, torches};
+pub use trials::{BYTES, Pair, TRIALS, Trial, pairs, profile, torches};
 
 /// A table that is settled, and its devices.
 pub struct Settling<'a> {

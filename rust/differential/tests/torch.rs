@@ -9,10 +9,9 @@ use differential::probe::{Probe, probe_check};
 use differential::suite::{assert_compared, at_least_good_cases};
 use differential::table::{self, ABOVE};
 use differential::torch::{
-    BYTES, MISREADINGS, Misreading, Pair, Reading, TRIES, Try, charge, pairs, profile, queries, torches,
+    BYTES, MISREADINGS, Misreading, Pair, Reading, TRIALS, Trial, charge, pairs, profile, queries, torches,
 };
 use redstone::{Circuit, Columns, Kind, PROFILE_BYTES, Refusal, Row, STATE_BYTES, Settled, Shape};
-use redstone_text::Table;
 
 const LIMIT: u32 = 128;
 const GENERATED_TABLES: u64 = 20_000;
@@ -32,26 +31,15 @@ fn settled(case: &Case, devices: &[u8]) -> Settled {
     circuit(case).settle(devices, LIMIT).unwrap_or_else(|refusal| panic!("{refusal}\n{case}"))
 }
 
-fn table_of(tried: &Try, byte: u8) -> Table {
-    let table: Table = tried.table.parse().unwrap_or_else(|error| panic!("{error}\n{}", tried.table));
-    Table { profile: profile(byte), ..table }
+/// Every table of the trials, by every byte.
+fn trial_cases() -> impl Iterator<Item = Case> {
+    TRIALS.iter().flat_map(|trial| BYTES.map(|byte| trial.case(byte)))
 }
 
-fn case_of(tried: &Try, byte: u8) -> Case {
-    Case::new(tried.what, profile(byte), table_of(tried, byte).rows)
-}
-
-/// Every table that is tried, by every byte.
-fn tried_cases() -> impl Iterator<Item = Case> {
-    TRIES.iter().flat_map(|tried| BYTES.map(|byte| case_of(tried, byte)))
-}
-
-/// A table that is tried, by bytes that change nothing but the value, each with the answers that are written.
-fn documents(tried: &Try) -> [String; 4] {
-    let Try { without, with, .. } = tried;
-    let document =
-        |(byte, answers)| format!("```table\n{}```\n```run\n{answers}```\n", table_of(tried, byte));
-    [(0, without), (1, without), (32, with), (33, with)].map(document)
+/// A trial by bytes that change nothing but the value, each with the answers that are written.
+fn documents(trial: &Trial) -> [String; 4] {
+    let document = |(byte, run)| format!("```table\n{}```\n```run\n{run}```\n", trial.table(byte));
+    [(0, trial.without), (1, trial.without), (32, trial.with), (33, trial.with)].map(document)
 }
 
 fn check_document(document: &str, check: impl Fn(&Example) -> Result<(), Fault>) -> Result<(), Fault> {
@@ -63,27 +51,37 @@ fn check_proved(example: &Example) -> Result<(), Fault> {
 }
 
 fn assert_written(check: impl Fn(&Example) -> Result<(), Fault>) {
-    for document in TRIES.iter().flat_map(documents) {
-        check_document(&document, &check).unwrap_or_else(|fault| panic!("{fault} of\n{document}"));
+    for trial in &TRIALS {
+        for document in documents(trial) {
+            let checked = check_document(&document, &check);
+            checked.unwrap_or_else(|fault| panic!("{}: {fault} of\n{document}", trial.what));
+        }
     }
 }
 
 #[test]
-fn tries_answer_as_is_written() {
+fn trials_answer_as_is_written() {
     assert_written(check_proved);
 }
 
-/// The answers with the value in the place of those without, and the other way round. On four tables they are the same.
+/// The answers with the value in the place of those without, and the other way round. In four trials they are the same.
 #[test]
 fn exchanged_answers_are_reported() {
-    let exchanged = |tried: &Try| Try { with: tried.without, without: tried.with, ..*tried };
-    let reported = |document: &String| check_document(document, check_proved).is_err();
-    let reported = |tried| documents(&exchanged(tried)).iter().filter(|document| reported(document)).count();
-    let reported: Vec<_> = TRIES.iter().map(reported).collect();
-    let expected: Vec<_> =
-        TRIES.iter().map(|tried| if tried.with == tried.without { 0 } else { 4 }).collect();
-    assert_eq!(reported, expected);
-    assert_eq!(expected.iter().filter(|reported| **reported == 0).count(), 4);
+    let mut same = 0;
+    for trial in &TRIALS {
+        let exchanged = documents(&Trial { with: trial.without, without: trial.with, ..*trial });
+        let is_same = trial.with == trial.without;
+        for document in exchanged {
+            assert_eq!(
+                check_document(&document, check_proved).is_ok(),
+                is_same,
+                "{}:\n{document}",
+                trial.what
+            );
+        }
+        same += usize::from(is_same);
+    }
+    assert_eq!(same, 4);
 }
 
 /// Under the bench profile plain solid blocks and lamps do, and double slabs of every kind; a torch does by value 4 of its
@@ -101,33 +99,31 @@ fn charge_by_hand(Pair { over, byte, .. }: &Pair, lit: bool) -> Option<u8> {
     over.map(|over| if lit && *byte >= 32 && receives_strong(over, *byte) { 15 } else { 0 })
 }
 
-/// How often a block was charged: with a lit torch in the device column, with one that is lit by its field, and with one
-/// that is out.
+/// A pair settled with the torch lit, with the fresh devices, and with the torch out; and whether it is lit.
+fn settlings(pair: &Pair) -> [(bool, Settled); 3] {
+    let case = pair.case();
+    let with = |lit: bool| settled(&case, &[lit.into(), 0][..case.rows()]);
+    let by_field = pair.torch.powered().unwrap_or(true);
+    [(true, with(true)), (by_field, circuit(&case).settled().clone()), (false, with(false))]
+}
+
 #[test]
 fn every_torch_under_every_block_is_as_by_hand() {
-    let (mut pairs_settled, mut charged) = (0, [0; 3]);
+    let (mut tables, mut charged) = (0, [0; 3]);
     for pair in pairs() {
-        let case = pair.case();
-        let strong = |settled: &Settled| settled.strong().get(1).copied();
-        let devices = |lit: bool| [lit.into(), 0];
-        let by_field = pair.torch.powered().unwrap_or(true);
-        let settlings = [
-            (true, settled(&case, &devices(true)[..case.rows()])),
-            (by_field, circuit(&case).settled().clone()),
-            (false, settled(&case, &devices(false)[..case.rows()])),
-        ];
-        for ((lit, settled), charged) in settlings.iter().zip(&mut charged) {
-            assert_eq!(strong(settled), charge_by_hand(&pair, *lit), "{lit} {case}");
-            *charged += usize::from(strong(settled) == Some(15));
+        for ((lit, settled), charged) in settlings(&pair).into_iter().zip(&mut charged) {
+            let strong = settled.strong().get(1).copied();
+            assert_eq!(strong, charge_by_hand(&pair, lit), "lit: {lit}, {pair:?}");
+            *charged += usize::from(strong == Some(15));
         }
-        pairs_settled += 1;
+        tables += 1;
     }
-    let torches = 7 * 7 * 3;
-    assert_eq!(pairs_settled, torches * (12 * 7 + 1) * BYTES.len());
-    // Fourteen blocks receive strong power, and by bytes 36 and 63 a torch, too; two torches of three are lit.
-    let charges = torches * (2 * 14 + 2 * 15);
-    assert_eq!(charged, [charges, charges / 3 * 2, 0]);
-    print(&format!("torch, every pair by hand: {pairs_settled} tables, {charged:?} with a charged block"));
+    let torches = torches().count();
+    assert_eq!([torches, tables], [7 * 7 * 3, torches * (12 * 7 + 1) * 6]);
+    // Fourteen blocks receive strong power, and by bytes 36 and 63 a torch, too. Of three fresh torches two are lit.
+    let lit = torches * (2 * 14 + 2 * 15);
+    assert_eq!(charged, [lit, lit / 3 * 2, 0]);
+    print(&format!("torch, every pair by hand: {tables} tables, a block charged in {charged:?}"));
 }
 
 /// A torch, and solid blocks wherever there is room up to two cells away from it.
@@ -139,36 +135,34 @@ fn surrounded(torch: Row, byte: u8) -> Case {
     Case::new("a torch among blocks", profile(byte), blocks.chain([torch]))
 }
 
-fn is_torch(row: &Row) -> bool {
-    row.kind() == Kind::RedstoneTorch
+/// The weak and strong power of a row about a torch at 0,0,0 that charges the block above it. That block reaches those
+/// around it, and the torch itself where its shape conducts.
+fn power_about(row: &Row) -> [u8; 2] {
+    match (row.position(), row.shape()) {
+        ([0, 1, 0], _) => [0, 15],
+        ([-1 | 1, 1, 0] | [0, 1, -1 | 1] | [0, 2, 0], _) | ([0, 0, 0], Shape::DoubleSlab) => [15, 0],
+        _ => [0, 0],
+    }
 }
 
-/// The charged block reaches those around it with weak power, and the torch where its shape conducts.
 #[test]
 fn no_block_is_charged_but_the_one_above() {
-    const AROUND: [[i32; 3]; 5] = [[-1, 1, 0], [1, 1, 0], [0, 1, -1], [0, 1, 1], [0, 2, 0]];
-    let mut charged = [0; 2];
+    let mut charged = 0;
     for torch in torches() {
         for (byte, lit) in [(0, 0), (0, 1), (32, 0), (32, 1)] {
             let case = surrounded(torch, byte);
             let rows = table::rows(&case.table);
-            let devices: Vec<_> = rows.iter().map(|row| lit * u8::from(is_torch(row))).collect();
+            let devices: Vec<_> =
+                rows.iter().map(|row| if row.position() == [0; 3] { lit } else { 0 }).collect();
             let settled = settled(&case, &devices);
-            let power = |charged: bool| if charged && (byte, lit) == (32, 1) { 15 } else { 0 };
-            for (row, (strong, weak)) in rows.iter().zip(settled.strong().iter().zip(settled.weak())) {
-                let reached =
-                    AROUND.contains(&row.position()) || is_torch(row) && row.shape() == Shape::DoubleSlab;
-                assert_eq!(
-                    [*strong, *weak],
-                    [power(row.position() == ABOVE), power(reached)],
-                    "{row:?} of {case}"
-                );
-                charged[0] += usize::from(*strong > 0);
-                charged[1] += usize::from(*weak > 0);
+            for (row, power) in rows.iter().zip(settled.weak().iter().zip(settled.strong())) {
+                let expected = if (byte, lit) == (32, 1) { power_about(row) } else { [0, 0] };
+                assert_eq!([*power.0, *power.1], expected, "{row:?} of {case}");
+                charged += usize::from(*power.1 > 0);
             }
         }
     }
-    assert_eq!(charged, [7 * 7 * 3, 7 * 7 * 3 * 5 + 7 * 3]);
+    assert_eq!(charged, torches().count());
 }
 
 fn columns(bytes: &mut [[u8; 2]; 3]) -> Columns<'_> {
@@ -249,7 +243,7 @@ fn is_reported(cases: impl Iterator<Item = Case>, misreading: &Misreading) -> bo
 #[test]
 fn misreadings_are_reported() {
     for misreading in &MISREADINGS {
-        assert!(is_reported(tried_cases(), misreading), "on what is tried: {}", misreading.what);
+        assert!(is_reported(trial_cases(), misreading), "on what is tried: {}", misreading.what);
         let generated = (0..MISREAD_TABLES).map(generate::case);
         assert!(is_reported(generated, misreading), "on generated tables: {}", misreading.what);
     }
@@ -278,7 +272,7 @@ mod compared {
     use super::*;
 
     #[test]
-    fn tries_answer_as_is_written_by_the_original() {
+    fn trials_answer_as_is_written_by_the_original() {
         assert_written(|example| {
             let case = example.case();
             let oracle = Oracle::new(&case);
@@ -297,13 +291,13 @@ mod compared {
 
     /// States, tables and columns after every step.
     #[test]
-    fn tries_agree_with_the_original_for_a_hundred_ticks() {
-        let compared = run(tried_cases(), |case, tally| {
+    fn trials_agree_with_the_original_for_a_hundred_ticks() {
+        let compared = run(trial_cases(), |case, tally| {
             let oracle = Oracle::new(case);
             compare(steps(&oracle.rows), &OriginalRun::new(&oracle), &ProvedRun::new(case, false), tally)
         });
         let tally = assert_compared("torch, a hundred ticks", compared);
-        let tables = (TRIES.len() * BYTES.len()) as u64;
+        let tables = (TRIALS.len() * BYTES.len()) as u64;
         assert_eq!([tally.tables.values().sum(), tally.comparisons["tick"]], [tables, 100 * tables]);
     }
 
