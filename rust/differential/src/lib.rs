@@ -1,5 +1,5 @@
 //! Holds the proved functions of the static libraries `probe` and `redstone`, and the programs `settle` and `month`,
-//! against the original Rust, and look-ups on rows in any order against document 02.
+//! against the original Rust, and look-ups on rows in any order and what a torch charges against document 02.
 
 pub mod checks;
 pub mod compare;

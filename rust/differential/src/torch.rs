@@ -3,7 +3,7 @@
 mod misreadings;
 mod trials;
 
-use redstone::{Circuit, Kind, Row, Shape, TORCH_CHARGES_ABOVE};
+use redstone::{Circuit, Kind, Row, Shape};
 
 use crate::compare::{Answer, Answers, Query};
 use crate::devices::any_devices;
@@ -25,7 +25,7 @@ pub struct Settling<'a> {
 
 impl Settling<'_> {
     fn has_value(&self) -> bool {
-        self.profile[TORCH] & TORCH_CHARGES_ABOVE != 0
+        self.profile[TORCH] & 32 != 0
     }
 
     fn is_torch(&self, row: usize) -> bool {

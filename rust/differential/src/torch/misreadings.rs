@@ -11,7 +11,7 @@ pub struct Misreading {
     pub charge: Charge,
 }
 
-pub const MISREADINGS: [Misreading; 23] = [
+pub const MISREADINGS: [Misreading; 24] = [
     Misreading { what: "no torch charges", charge: |_, _, _| 0 },
     Misreading {
         what: "torches charge without the value",
@@ -119,6 +119,10 @@ pub const MISREADINGS: [Misreading; 23] = [
     Misreading {
         what: "plain torches alone charge",
         charge: |settling, from, to| only(settling.rows[from].shape() == Shape::Plain, settling, from, to),
+    },
+    Misreading {
+        what: "torches without a facing alone charge",
+        charge: |settling, from, to| only(settling.rows[from].facing().is_none(), settling, from, to),
     },
     Misreading {
         what: "standing torches alone charge",

@@ -27,7 +27,7 @@ impl Pair {
     }
 }
 
-/// Without the value and with it: alone, beside all others, beside "supports components" and beside "receives strong".
+/// Without the value, and with it: alone, beside "supports components", beside "receives strong" and beside all others.
 pub const BYTES: [u8; 6] = [0, 31, 32, 33, 36, 63];
 
 /// Every torch under every block and under none, by every byte.
@@ -86,7 +86,7 @@ impl Trial {
     }
 }
 
-pub const TRIALS: [Trial; 30] = [
+pub const TRIALS: [Trial; 31] = [
     Trial {
         what: "a standing torch",
         rows: "0,0,0 RedstoneTorch support=0,-1,0\n0,1,0 Solid\n",
@@ -125,6 +125,16 @@ pub const TRIALS: [Trial; 30] = [
                   row=8,1,0,0,0,0\nrow=10,1,0,0,0,0\n",
         with: "row=0,1,0,0,0,15\nrow=2,1,0,0,0,15\nrow=4,0,0,15,15,0\nrow=4,1,0,0,0,15\nrow=6,1,0,0,0,15\n\
                row=8,1,0,0,0,15\nrow=10,1,0,0,0,15\n",
+    },
+    Trial {
+        what: "torches of every facing",
+        rows: "0,0,0 RedstoneTorch facing=North\n0,1,0 Solid\n2,0,0 RedstoneTorch facing=East\n2,1,0 Solid\n\
+               4,0,0 RedstoneTorch facing=South\n4,1,0 Solid\n6,0,0 RedstoneTorch facing=West\n6,1,0 Solid\n\
+               8,0,0 RedstoneTorch facing=Up\n8,1,0 Solid\n10,0,0 RedstoneTorch facing=Down\n10,1,0 Solid\n",
+        without: "row=0,1,0,0,0,0\nrow=2,1,0,0,0,0\nrow=4,1,0,0,0,0\nrow=6,1,0,0,0,0\nrow=8,1,0,0,0,0\n\
+                  row=10,1,0,0,0,0\n",
+        with: "row=0,1,0,0,0,15\nrow=2,1,0,0,0,15\nrow=4,1,0,0,0,15\nrow=6,1,0,0,0,15\nrow=8,1,0,0,0,15\n\
+               row=10,1,0,0,0,15\n",
     },
     Trial {
         what: "what is no torch",
