@@ -1,4 +1,5 @@
-//! Copies the original's files to the build's own folder, with the few changes of `PATCHES`.
+//! Copies the original's files to the build's own folder, with the few changes of `PATCHES`, and electrical.rs without
+//! them, too.
 //!
 //! The files come from the folder that DUSTROUTE_SRC names or else from `shared/docs/src` beside the repository.
 //! Where neither is there, the crate is built empty (cfg `no_original`).
@@ -9,6 +10,7 @@ use std::{env, fs};
 const WORLD: &str = "dustroute-minecraft/src/world.rs";
 const BLOCKS: &str = "dustroute-minecraft/src/blocks/mod.rs";
 const AIR: &str = "dustroute-minecraft/src/blocks/air.rs";
+const ELECTRICAL: &str = "dustroute-translate/src/electrical.rs";
 
 /// Each file of the original and its place in the build's folder.
 const FILES: [(&str, &str); 7] = [
@@ -17,7 +19,7 @@ const FILES: [(&str, &str); 7] = [
     (AIR, "blocks/air.rs"),
     ("dustroute-translate/src/connectivity.rs", "connectivity.rs"),
     ("dustroute-translate/src/wire.rs", "wire.rs"),
-    ("dustroute-translate/src/electrical.rs", "electrical.rs"),
+    (ELECTRICAL, "electrical.rs"),
     ("dustroute-translate/src/sim.rs", "sim.rs"),
 ];
 
@@ -48,7 +50,7 @@ const fn patch(file: &'static str, old: &'static str, new: &'static str) -> Patc
 }
 
 /// Every change to the original's text.
-const PATCHES: [Patch; 14] = [
+const PATCHES: [Patch; 15] = [
     // The profile is an input, read while the program runs, so these two functions are const no more.
     patch(WORLD, "pub const fn properties(", "pub fn properties("),
     patch(BLOCKS, "pub const fn behavior_profile(", "pub fn behavior_profile("),
@@ -65,6 +67,13 @@ const PATCHES: [Patch; 14] = [
     patch(BLOCKS, " redstone_lamp::PROFILE", " redstone_lamp::profile()"),
     patch(BLOCKS, " redstone_block::PROFILE", " redstone_block::profile()"),
     patch(BLOCKS, " piston::PROFILE", " piston::profile()"),
+    // Document 02, Change 3: among the targets of strong power is the block above a torch, where the profile says so.
+    patch(
+        ELECTRICAL,
+        "_ => Vec::new(),",
+        "BlockKind::RedstoneTorch if crate::profile::torch_charges_above() => vec![pos.offset(0, 1, 0)], \
+         _ => Vec::new(),",
+    ),
 ];
 
 fn main() {
@@ -99,6 +108,7 @@ fn write_sources(source: &Path, out: &Path) {
     for (file, place) in FILES {
         write(&out.join(place), &patched(file, read(&source.join(file))));
     }
+    write(&out.join("unpatched.rs"), &read(&source.join(ELECTRICAL)));
     for (name, kind) in MISSING {
         write(&out.join(format!("blocks/{name}.rs")), &missing_profile(kind));
     }

@@ -1,9 +1,9 @@
-//! The refusals of profile and table: the proved check against the second reading of document 01.
+//! The refusals of profile and table: the proved check against the second reading of documents 01 and 02.
 
-use redstone::{MOST_ROWS, ROW_BYTES};
+use redstone::{Kind, MOST_ROWS, ROW_BYTES};
 
 use crate::compare::{Alteration, Answer, Answers, Compared, Query, Tally, compare};
-use crate::generate::Case;
+use crate::generate::{Case, TORCH};
 use crate::probe::{Probe, probe_check};
 use crate::refusals::{self, REFUSED, Refusal};
 
@@ -35,7 +35,7 @@ pub fn compare_case(case: &Case, actual: &dyn Answers<Check>, tally: &mut Tally)
     compare([Check], &Reading(case), actual, tally)
 }
 
-pub const ALTERATIONS: [Alteration<Check>; 4] = [
+pub const ALTERATIONS: [Alteration<Check>; 7] = [
     Alteration {
         function: "check",
         what: "a bad row's number is the next row's",
@@ -72,4 +72,37 @@ pub const ALTERATIONS: [Alteration<Check>; 4] = [
             }
         },
     },
+    Alteration {
+        function: "check",
+        what: "the torch's byte ends at 31",
+        alter: |case, _, answer| {
+            if case.torch_charges_above() {
+                answer.number = REFUSED.into();
+            }
+        },
+    },
+    Alteration {
+        function: "check",
+        what: "the torch's byte reaches 64",
+        alter: |case, _, answer| {
+            let mut case = case.clone();
+            if case.profile.get(TORCH) == Some(&64) {
+                case.profile[TORCH] = 0;
+                *answer = Probe(&case).answer(&Check);
+            }
+        },
+    },
+    Alteration {
+        function: "check",
+        what: "the lever's byte reaches 63, too",
+        alter: |case, _, answer| {
+            let mut case = case.clone();
+            if let Some(32..=63) = case.profile.get(LEVER) {
+                case.profile[LEVER] = 0;
+                *answer = Probe(&case).answer(&Check);
+            }
+        },
+    },
 ];
+
+const LEVER: usize = Kind::Lever.code() as usize;

@@ -89,11 +89,18 @@ impl<Q: Query, A: Answers<Q>> Answers<Q> for Altered<'_, Q, A> {
 #[derive(Default)]
 pub struct Tally {
     pub tables: BTreeMap<&'static str, u64>,
+    /// The tables whose profile has value 32 for the torch.
+    pub charging: u64,
     pub comparisons: BTreeMap<&'static str, u64>,
     pub answers: BTreeMap<(&'static str, i128), u64>,
 }
 
 impl Tally {
+    pub fn count(&mut self, case: &Case) {
+        *self.tables.entry(case.sort).or_default() += 1;
+        self.charging += u64::from(case.torch_charges_above());
+    }
+
     pub fn all_comparisons(&self) -> u64 {
         self.comparisons.values().sum()
     }
@@ -106,7 +113,8 @@ impl Tally {
 
 impl Display for Tally {
     fn fmt(&self, f: &mut Formatter<'_>) -> fmt::Result {
-        for (what, counts) in [("tables", &self.tables), ("comparisons", &self.comparisons)] {
+        let tables = format!("tables, {} with value 32", self.charging);
+        for (what, counts) in [(&tables[..], &self.tables), ("comparisons", &self.comparisons)] {
             writeln!(f, "{} {what}", counts.values().sum::<u64>())?;
             for (name, count) in counts {
                 writeln!(f, "  {count:>10} {name}")?;
@@ -185,7 +193,7 @@ pub fn run(
 ) -> Result<Tally, Box<Report>> {
     let mut tally = Tally::default();
     for case in cases {
-        *tally.tables.entry(case.sort).or_default() += 1;
+        tally.count(&case);
         if let Err(mismatch) = compare_case(&case, &mut tally) {
             let smallest = smallest(&case, |case| compare_case(case, &mut Tally::default()).err());
             return Err(Box::new(Report { case, mismatch, smallest }));

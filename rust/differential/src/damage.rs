@@ -2,13 +2,13 @@
 
 use redstone::{FARTHEST, Kind, MOST_ROWS, ROW_BYTES, Row};
 
-use crate::generate::Case;
+use crate::generate::{Case, TORCH};
 use crate::random::Random;
 
 type Damage = (&'static str, fn(&mut Random, &mut Case));
 
 /// The sorts of damage, each with its share.
-const DAMAGES: [(usize, Damage); 14] = [
+const DAMAGES: [(usize, Damage); 15] = [
     (10, ("field byte", field_byte)),
     (10, ("value not given", value_not_given)),
     (10, ("given byte", given_byte)),
@@ -21,6 +21,7 @@ const DAMAGES: [(usize, Damage); 14] = [
     (1, ("rows at the most or above", many_rows)),
     (10, ("profile length", profile_length)),
     (10, ("profile of Air", profile_of_air)),
+    (10, ("profile of the torch", profile_of_the_torch)),
     (10, ("profile byte", profile_byte)),
     (10, ("any byte", any_byte)),
 ];
@@ -139,11 +140,18 @@ fn profile_of_air(random: &mut Random, case: &mut Case) {
     }
 }
 
+fn profile_of_the_torch(random: &mut Random, case: &mut Case) {
+    let any = random.byte();
+    if let Some(torch) = case.profile.get_mut(TORCH) {
+        *torch = random.pick(&[0, 31, 32, 33, 63, 64, 65, 255, any]);
+    }
+}
+
 fn profile_byte(random: &mut Random, case: &mut Case) {
     if !case.profile.is_empty() {
         let at = random.below(case.profile.len());
         let any = random.byte();
-        case.profile[at] = random.pick(&[31, 32, 63, 255, any]);
+        case.profile[at] = random.pick(&[31, 32, 33, 63, 64, 255, any]);
     }
 }
 

@@ -1,11 +1,12 @@
 //! Holds the proved functions of the static libraries `probe` and `redstone`, and the programs `settle` and `month`,
-//! against the original Rust, and look-ups on rows in any order against document 02.
+//! against the original Rust, and look-ups on rows in any order and what a torch charges against document 02.
 
 pub mod checks;
 pub mod compare;
 #[cfg(not(no_original))]
 pub mod connectivity;
 pub mod damage;
+pub mod devices;
 pub mod differences;
 pub mod disorder;
 pub mod generate;
@@ -27,6 +28,7 @@ pub mod report;
 pub mod settle;
 pub mod suite;
 pub mod table;
+pub mod torch;
 #[cfg(not(no_original))]
 pub mod wire;
 #[cfg(not(no_original))]

@@ -22,7 +22,7 @@ use crate::table::Position;
 
 pub use alterations::ALTERATIONS;
 pub use edges::{edges, single_bytes};
-pub use queries::{any_devices, fresh_devices, queries, settle_at_every_limit};
+pub use queries::{fresh_devices, queries, settle_at_every_limit};
 pub use runs::{OriginalRun, ProvedRun, Step, steps};
 pub use state::device_outputs;
 use state::{pack, unpack};
@@ -67,6 +67,7 @@ impl Query for Call {
 
 /// Where the buffers of a call stand in its answer. Those that it only reads are there too. STATE is the device column
 /// for settle.
+pub const PROFILE: usize = 0;
 pub const TABLE: usize = 1;
 pub const STATE: usize = 2;
 pub const SIGNAL: usize = 3;

@@ -1,4 +1,4 @@
-//! The refusals, read from document 01 a second time and apart from the proved code.
+//! The refusals, read from documents 01 and 02 a second time and apart from the proved code.
 
 use redstone::Kind;
 
@@ -87,7 +87,17 @@ fn position(table: &[u8], row: usize) -> Position {
 }
 
 fn good_profile(profile: &[u8]) -> bool {
-    profile.len() == 13 && profile[0] == 0 && profile.iter().all(|byte| *byte <= 31)
+    profile.len() == 13
+        && profile[0] == 0
+        && (0..).zip(profile).all(|(kind, byte)| *byte <= highest_profile_byte(kind))
+}
+
+/// Document 02, Change 3: "Number 1 now lets the torch's byte reach 63."
+fn highest_profile_byte(kind: u8) -> u8 {
+    match Kind::try_from(kind) {
+        Ok(Kind::RedstoneTorch) => 63,
+        _ => 31,
+    }
 }
 
 fn good_row(row: &[u8]) -> bool {

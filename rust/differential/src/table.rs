@@ -8,6 +8,10 @@ pub type Position = [i32; 3];
 /// The steps to the North, East, South and West.
 pub const HORIZONTAL: [Position; 4] = [[0, 0, -1], [1, 0, 0], [0, 0, 1], [-1, 0, 0]];
 
+/// The steps up and down.
+pub const ABOVE: Position = [0, 1, 0];
+pub const UNDER: Position = [0, -1, 0];
+
 /// The rows of an accepted table.
 pub fn rows(table: &[u8]) -> Vec<Row> {
     redstone::rows(table).expect("an accepted table")

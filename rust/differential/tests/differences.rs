@@ -8,6 +8,7 @@ use std::path::{Path, PathBuf};
 use differential::differences::{
     Example, Fault, Proved, check, check_risks, examples, named_tests, tests_in,
 };
+use differential::generate::BENCH_PROFILE;
 use differential::probe::probe_shape_of_name;
 
 const DOCUMENT: &str = "docs/DIFFERENCES.md";
@@ -77,6 +78,19 @@ fn every_written_answer_counts() {
     }
 }
 
+/// By the bench profile each table with a profile of its own answers otherwise than is written.
+#[test]
+fn every_written_profile_counts() {
+    let document = document();
+    let mut examples = examples(&document).unwrap_or_else(|fault| panic!("{fault}"));
+    examples.retain(|example| example.table.profile != BENCH_PROFILE);
+    assert!(!examples.is_empty(), "{DOCUMENT} has no profile");
+    for mut example in examples {
+        example.table.profile = BENCH_PROFILE;
+        assert!(check(&example, || Proved::new(example.case())).is_err(), "{}", example.table);
+    }
+}
+
 #[test]
 fn every_entry_has_its_risk() {
     let entries = check_risks(&document()).unwrap_or_else(|fault| panic!("{DOCUMENT}: {fault}"));
@@ -92,7 +106,7 @@ fn stained_glass_by_name_is_plain() {
     #[cfg(not(no_original))]
     {
         use differential::compare::Answers;
-        use differential::generate::{BENCH_PROFILE, Case};
+        use differential::generate::Case;
         use differential::oracle::Oracle;
         use differential::world::{Name, WorldQuery};
 
@@ -110,6 +124,20 @@ const SETTLED: &str = "\
 blocks=1
 rounds=2
 row=0,0,0,0,0,0
+```
+";
+
+const PROFILED: &str = "\
+```table
+profile Solid=4 RedstoneTorch=32
+0,0,0 RedstoneTorch
+0,1,0 Solid
+```
+```output
+blocks=2
+rounds=2
+row=0,0,0,15,0,0
+row=0,1,0,0,0,15
 ```
 ";
 
@@ -199,6 +227,21 @@ const FAULTS_WHEN_SETTLED: [Change; 26] = [
     ("row=0,0,0,0,0,0\n```", "row=0,0,0,0,0,0\n"),
 ];
 
+const FAULTS_IN_A_PROFILE: [Change; 9] = [
+    ("profile Solid=4 RedstoneTorch=32\n", ""),
+    ("profile Solid=4 RedstoneTorch=32", "profile RedstoneTorch=32 Solid=4"),
+    ("profile Solid=4 RedstoneTorch=32", "profile=0,4,0,0,32"),
+    (
+        "profile Solid=4 RedstoneTorch=32\n0,0,0 RedstoneTorch\n",
+        "0,0,0 RedstoneTorch\nprofile Solid=4 RedstoneTorch=32\n",
+    ),
+    ("RedstoneTorch=32", "RedstoneTorch=31"),
+    ("RedstoneTorch=32", "RedstoneTorch=64"),
+    ("RedstoneTorch=32", "Lever=32"),
+    ("RedstoneTorch=32", "Torch=32"),
+    ("Solid=4 ", ""),
+];
+
 const FAULTS_IN_A_RUN: [Change; 12] = [
     ("switch 0,0,0 on", "switch 0,0,0"),
     ("switch 0,0,0 on", "switch 0,0,0 up"),
@@ -257,6 +300,7 @@ fn assert_each_is_reported<T>(document: &str, changes: &[Change], check: impl Fn
 #[test]
 fn faults_are_reported() {
     assert_each_is_reported(SETTLED, &FAULTS_WHEN_SETTLED, check_proved);
+    assert_each_is_reported(PROFILED, &FAULTS_IN_A_PROFILE, check_proved);
     assert_each_is_reported(RUN, &FAULTS_IN_A_RUN, check_proved);
     assert_each_is_reported(ENTRIES, &FAULTS_IN_ENTRIES, check_proved);
     assert_each_is_reported(RISKS, &FAULTS_IN_RISKS, check_risks);

@@ -17,7 +17,7 @@ mod compared {
     use std::path::Path;
     use std::process::{Command, Stdio};
 
-    use differential::generate::{BENCH_PROFILE, Case};
+    use differential::generate::{BENCH_PROFILE, Case, TORCH};
     use differential::month::{Ended, Figures, MOST_TABLES, Month, expected, stream};
     use differential::program::{find, run, run_bytewise};
     use differential::suite::{at_least_good_cases, good_cases, with_damaged};
@@ -73,7 +73,7 @@ mod compared {
     #[test]
     fn the_figures_are_the_sums_by_the_original() {
         let cases: Vec<_> = at_least_good_cases(6_000).collect();
-        let (mut streams, mut sum) = (0, Figures::default());
+        let (mut streams, mut charging, mut sum) = (0, 0, Figures::default());
         for cases in cases.chunks(CASES_OF_A_STREAM) {
             let stream = stream(&cases[0].profile, tables(cases));
             let month = Month::of(&stream).expect("a good profile");
@@ -81,12 +81,16 @@ mod compared {
             assert_eq!(month.ended, Ended::Whole);
             sum.add(&month.figures, 1);
             streams += 1;
+            charging += usize::from(cases[0].torch_charges_above());
         }
         let Figures { tables, refused, rounds, levels } = sum;
-        let counts = format!("{streams} streams, {tables} tables settled, {refused} refused");
+        let counts = format!(
+            "{streams} streams, {charging} with value 32, {tables} tables settled, {refused} refused"
+        );
         writeln!(std::io::stdout(), "\nmonth: {counts}\n  rounds {rounds:?}\n  levels {levels:?}")
             .expect("standard output can be written");
         assert!(refused > 0, "no table was refused");
+        assert!((1..streams).contains(&charging), "value 32 in {charging} of {streams} streams");
         assert!(!rounds.contains(&0), "a number of rounds is missing: {rounds:?}");
         assert!(!levels.contains(&0), "a level is missing: {levels:?}");
     }
@@ -214,7 +218,16 @@ mod compared {
             assert_eq!(assert_agrees(&BENCH_PROFILE[..length]), refused, "{length} bytes");
         }
         for kind in 0..PROFILE_BYTES {
-            for (byte, is_good) in [(1, kind > 0), (31, kind > 0), (32, false), (255, false)] {
+            let is_torch = kind == TORCH;
+            for (byte, is_good) in [
+                (1, kind > 0),
+                (31, kind > 0),
+                (32, is_torch),
+                (33, is_torch),
+                (63, is_torch),
+                (64, false),
+                (255, false),
+            ] {
                 let mut profile = BENCH_PROFILE;
                 profile[kind] = byte;
                 let written = assert_agrees(&stream(&profile, &tables));

@@ -33,9 +33,11 @@ mod compared {
 
     #[test]
     fn the_program_agrees_with_the_original() {
-        let outputs = assert_agrees(with_damaged(good_cases(2_000)).map(input));
+        let cases: Vec<_> = with_damaged(good_cases(2_000)).collect();
+        let charging = cases.iter().filter(|case| case.torch_charges_above()).count();
+        let outputs = assert_agrees(cases.into_iter().map(input));
         let refused = outputs.iter().filter(|output| output.starts_with("refusal=")).count();
-        let counts = format!("{} inputs, {refused} of them refused", outputs.len());
+        let counts = format!("{} inputs, {charging} with value 32, {refused} refused", outputs.len());
         writeln!(std::io::stdout(), "\nprogram: {counts}").expect("standard output can be written");
     }
 

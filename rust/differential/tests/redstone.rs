@@ -93,7 +93,7 @@ mod compared {
     fn assert_each_agrees(title: &str, asked: impl Iterator<Item = (Case, Call)>) {
         let mut tally = Tally::default();
         for (case, call) in asked {
-            *tally.tables.entry(case.sort).or_default() += 1;
+            tally.count(&case);
             let compared = compare([call], &Oracle::new(&case), &Probe(&case), &mut tally);
             compared.unwrap_or_else(|mismatch| panic!("{title}: {case}{mismatch}"));
         }

@@ -25,8 +25,13 @@ mod compared {
         let shapes =
             |kind: &'static Kind| Shape::ALL.iter().map(|shape| Row::new(*kind, [0; 3]).with_shape(*shape));
         let rows = Kind::ALL.iter().flat_map(shapes);
-        let cases = rows.flat_map(|row| (0..=31).map(move |bits| one_row(row, bits)));
+        let cases = rows.flat_map(|row| (0..=most(row.kind())).map(move |bits| one_row(row, bits)));
         assert_agrees("single blocks", cases, compare_case);
+    }
+
+    /// The largest byte that a profile may have for a kind.
+    fn most(kind: Kind) -> u8 {
+        if kind == Kind::RedstoneTorch { 63 } else { 31 }
     }
 
     fn one_row(row: Row, bits: u8) -> Case {

@@ -34,6 +34,11 @@ pub mod electrical {
     include!(concat!(env!("OUT_DIR"), "/electrical.rs"));
 }
 
+/// electrical.rs as it is supplied: no torch charges the block above it.
+pub mod unpatched {
+    include!(concat!(env!("OUT_DIR"), "/unpatched.rs"));
+}
+
 pub mod sim {
     include!(concat!(env!("OUT_DIR"), "/sim.rs"));
 

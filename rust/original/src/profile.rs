@@ -55,3 +55,9 @@ pub(crate) fn of_kind(kind: usize) -> BlockBehaviorProfile {
         order_sensitive: false,
     }
 }
+
+/// Document 02, Change 3: whether the torch's byte has the value 32.
+pub(crate) fn torch_charges_above() -> bool {
+    const TORCH: usize = 4;
+    IN_FORCE.get()[TORCH] & 32 != 0
+}

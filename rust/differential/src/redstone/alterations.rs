@@ -2,11 +2,13 @@
 
 use redstone::{ROW_BYTES, STATE_BYTES};
 
-use super::{Call, Input, SIGNAL, STATE, STRONG, TABLE, WEAK};
-use crate::compare::{Alteration, Answers};
+use super::{Call, Input, PROFILE, SIGNAL, STATE, STRONG, TABLE, WEAK};
+use crate::compare::{Alteration, Answer, Answers};
+use crate::generate::Case;
+use crate::lent::Lent;
 use crate::probe::Probe;
 
-pub const ALTERATIONS: [Alteration<Call>; 11] = [
+pub const ALTERATIONS: [Alteration<Call>; 15] = [
     Alteration {
         function: "fresh",
         what: "no lamp is lit",
@@ -106,4 +108,31 @@ pub const ALTERATIONS: [Alteration<Call>; 11] = [
             }
         },
     },
+    Alteration {
+        function: "fresh",
+        what: "no torch charges the block above",
+        alter: |case, call, answer| *answer = with_torch_charging(false, case, call),
+    },
+    Alteration {
+        function: "settle",
+        what: "every torch charges the block above",
+        alter: |case, call, answer| *answer = with_torch_charging(true, case, call),
+    },
+    Alteration {
+        function: "tick",
+        what: "no torch charges the block above",
+        alter: |case, call, answer| *answer = with_torch_charging(false, case, call),
+    },
+    Alteration {
+        function: "switch",
+        what: "every torch charges the block above",
+        alter: |case, call, answer| *answer = with_torch_charging(true, case, call),
+    },
 ];
+
+/// The answer with profile value 32 set or clear for the torch. The profile comes back as it was lent.
+fn with_torch_charging(charges: bool, case: &Case, call: &Call) -> Answer {
+    let mut answer = Probe(&case.with_torch_charging(charges)).answer(call);
+    answer.buffers[PROFILE] = Lent::new(&case.profile).returned();
+    answer
+}

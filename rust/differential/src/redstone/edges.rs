@@ -4,7 +4,7 @@ use redstone::{Arm, FARTHEST, Facing, Kind, MOST_ROWS, ROW_BYTES, Row, STATE_BYT
 
 use super::queries::fresh_devices;
 use super::{Call, Input};
-use crate::generate::{BENCH_PROFILE, Case};
+use crate::generate::{BENCH_PROFILE, Case, TORCH};
 use crate::oracle::Oracle;
 use crate::table::HORIZONTAL;
 
@@ -15,23 +15,26 @@ fn case(sort: &'static str, rows: impl IntoIterator<Item = Row>) -> Case {
     Case::new(sort, BENCH_PROFILE, rows)
 }
 
-/// A lever on a lamp feeds a dust through a repeater and a comparator, and a torch hangs on the dust.
+/// A lever on a lamp feeds a dust through a repeater and a comparator, and a torch that hangs on the dust charges the
+/// block over it.
 fn small(sort: &'static str) -> Case {
     let lever = Row::new(Kind::Lever, [0, 1, 0]).with_support([0, -1, 0]);
     let east = |x, kind| Row::new(kind, [x, 1, 0]).with_facing(Facing::East);
     let arms = [None, Some(Arm::Side), Some(Arm::None), Some(Arm::Up)];
-    case(
-        sort,
-        [
-            Row::new(Kind::RedstoneLamp, [0, 0, 0]),
-            lever.with_powered(true).with_power_level(9),
-            east(1, Kind::Repeater).with_delay(3),
-            east(2, Kind::Comparator).with_subtract(true),
-            Row::new(Kind::RedstoneWire, [3, 1, 0]).with_arms(arms),
-            Row::new(Kind::RedstoneTorch, [3, 1, 1]).with_support([0, 0, -1]),
-        ],
-    )
+    let rows = [
+        Row::new(Kind::RedstoneLamp, [0, 0, 0]),
+        lever.with_powered(true).with_power_level(9),
+        east(1, Kind::Repeater).with_delay(3),
+        east(2, Kind::Comparator).with_subtract(true),
+        Row::new(Kind::RedstoneWire, [3, 1, 0]).with_arms(arms),
+        Row::new(Kind::RedstoneTorch, [3, 1, 1]).with_support([0, 0, -1]),
+        Row::new(Kind::Solid, [3, 2, 1]),
+    ];
+    case(sort, rows).with_torch_charging(true)
 }
+
+/// The number of its last row.
+const LAST: usize = 6;
 
 /// A line of as many blocks, of every kind.
 fn line(sort: &'static str, rows: usize) -> Case {
@@ -80,7 +83,7 @@ fn many_rows() -> impl Iterator<Item = Asked> {
 
 fn coordinates() -> impl Iterator<Item = Asked> {
     let values = [FARTHEST, FARTHEST + 1, -FARTHEST, -FARTHEST - 1, i32::MAX, i32::MIN];
-    let places = [0, 4, 8].into_iter().flat_map(|axis| [axis, 5 * ROW_BYTES + axis]);
+    let places = [0, 4, 8].into_iter().flat_map(|axis| [axis, LAST * ROW_BYTES + axis]);
     places.flat_map(move |at| values.map(|value| (at, value))).flat_map(|(at, value)| {
         let mut case = small("coordinate at or past the end");
         case.table[at..at + 4].copy_from_slice(&value.to_le_bytes());
@@ -139,22 +142,23 @@ fn pairs_of_faults() -> impl Iterator<Item = Asked> {
     })
 }
 
-const FAULTS: [fn(&mut Asked); 19] = [
+const FAULTS: [fn(&mut Asked); 20] = [
     |asked| resize(asked, 0, -1),
     |asked| resize(asked, 0, 1),
     |(case, _)| set(&mut case.profile, 0, 1),
     |(case, _)| set(&mut case.profile, 12, 32),
+    |(case, _)| set(&mut case.profile, TORCH, 64),
     |asked| resize(asked, 1, -1),
     |asked| resize(asked, 1, 1),
     |(case, _)| case.table = line("", MOST_ROWS + 1).table,
     |(case, _)| set(&mut case.table, 12, 0),
-    |(case, _)| set(&mut case.table, 5 * ROW_BYTES + 31, 1),
-    |(case, _)| case.table.copy_within(..12, 5 * ROW_BYTES),
+    |(case, _)| set(&mut case.table, LAST * ROW_BYTES + 31, 1),
+    |(case, _)| case.table.copy_within(..12, LAST * ROW_BYTES),
     |(case, _)| case.table.copy_within(2 * ROW_BYTES.., ROW_BYTES),
     |asked| resize(asked, 2, -1),
     |asked| resize(asked, 2, 1),
     |(_, call)| damage_state(&mut call.input, 0),
-    |(_, call)| damage_state(&mut call.input, 5),
+    |(_, call)| damage_state(&mut call.input, LAST),
     |asked| resize(asked, 3, -1),
     |asked| resize(asked, 4, 1),
     |asked| resize(asked, 5, -1),

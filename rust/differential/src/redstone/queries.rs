@@ -4,6 +4,7 @@ use original::electrical::DeviceOutputState;
 use redstone::{Kind, Row, STATE_BYTES};
 
 use super::{Call, Input, SETTLES};
+use crate::devices::{any_device, any_devices};
 use crate::generate::Case;
 use crate::oracle::{Oracle, pos};
 use crate::random::Random;
@@ -82,19 +83,6 @@ pub fn fresh_devices(oracle: &Oracle) -> Vec<u8> {
         }
     };
     oracle.rows.iter().map(device).collect()
-}
-
-/// Any valid device column.
-pub fn any_devices(random: &mut Random, rows: &[Row]) -> Vec<u8> {
-    rows.iter().map(|row| any_device(random, row.kind())).collect()
-}
-
-fn any_device(random: &mut Random, kind: Kind) -> u8 {
-    match kind {
-        Kind::Repeater | Kind::RedstoneTorch => random.byte_below(2),
-        Kind::Comparator => random.byte(),
-        _ => 0,
-    }
 }
 
 /// A state that a run comes to while switches are thrown: at its end they may stand otherwise than in the table.

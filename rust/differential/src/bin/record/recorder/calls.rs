@@ -1,14 +1,15 @@
 //! Operations 10 to 13: settle, fresh, ticks and switch.
 
 use differential::compare::{Answer, Answers};
+use differential::devices::any_devices;
 use differential::generate::{BENCH_PROFILE, Case};
 use differential::oracle::Oracle;
 use differential::random::Random;
 use differential::redstone::{
-    Call, Input, OriginalRun, SIGNAL, STATE, STRONG, Step, TABLE, WEAK, any_devices, fresh_devices,
+    Call, Input, OriginalRun, SIGNAL, STATE, STRONG, Step, TABLE, WEAK, fresh_devices,
 };
 use differential::table::{self, Position};
-use redstone::{Kind, Row};
+use redstone::{Facing, Kind, Row};
 
 use super::record::Record;
 use super::{MOST_ROWS, small_cases};
@@ -22,6 +23,10 @@ const LEAST_ROUNDS: u32 = 3;
 /// Of the limits for a device column of a generated table this many are kept.
 const LIMITS_KEPT: usize = 2;
 
+/// Of the tables in which a torch charges a block.
+const CHARGING_TABLES: usize = 5;
+const CHARGING_RUNS: usize = 2;
+
 /// Each step of a run has its table and state with it, so these are small tables.
 const RUNS: usize = 8;
 const MOST_RUN_ROWS: usize = 12;
@@ -34,13 +39,15 @@ const SHORT_RUNS: [usize; 2] = [20, 40];
 pub fn records(seed: u64, random: &mut Random) -> Vec<Record> {
     let [short_line, long_line] = [2, 15].map(|dust| Case::line("line", dust));
     let mut records = Vec::new();
-    for case in [&short_line, &long_line] {
+    let [with_value, without_value] = [true, false].map(|charges| charged().with_torch_charging(charges));
+    for case in [&short_line, &long_line, &with_value, &without_value] {
         records.extend(settles(random, case, LIMITS.len() + 2));
     }
-    for case in slow_cases(seed).take(SETTLED_TABLES) {
+    for case in slow_cases(seed).take(SETTLED_TABLES).chain(charging_cases(seed).take(CHARGING_TABLES)) {
         records.extend(settles(random, &case, LIMITS_KEPT));
     }
-    for case in [short_line, lamp()] {
+    let charging_runs = charging_cases(seed).take(CHARGING_RUNS);
+    for case in [short_line, lamp(), with_value].into_iter().chain(charging_runs) {
         records.extend(run(&case, &steps(random, &case)).records);
     }
     records.extend(lively_runs(seed, random).take(RUNS).flatten());
@@ -177,12 +184,39 @@ fn slow_cases(seed: u64) -> impl Iterator<Item = Case> {
     })
 }
 
+/// Small tables in which the fresh devices give a block other strong power by profile value 32 than without it.
+fn charging_cases(seed: u64) -> impl Iterator<Item = Case> {
+    let strong = |case: &Case| {
+        let oracle = Oracle::new(case);
+        settle(&oracle, &fresh_devices(&oracle), LIMITS[0]).bytes(STRONG)
+    };
+    small_cases(seed, MOST_RUN_ROWS)
+        .filter(move |case| strong(case) != strong(&case.with_torch_charging(false)))
+}
+
 /// Runs of small tables with a switch, in which most calls with ticks change the state.
 fn lively_runs(seed: u64, random: &mut Random) -> impl Iterator<Item = Vec<Record>> {
     let switched = |case: &Case| table::rows(&case.table).iter().any(is_switch);
     let runs =
         small_cases(seed, MOST_RUN_ROWS).filter(switched).map(|case| run(&case, &steps(random, &case)));
     runs.filter(|run| run.changes >= LEAST_CHANGES).map(|run| run.records)
+}
+
+/// A lever puts out a torch, and so takes the charge from the block over it, which dust, a lamp, a repeater and another
+/// torch read.
+fn charged() -> Case {
+    let block = |kind, position| Row::new(kind, position);
+    let rows = [
+        block(Kind::Solid, [0, 0, 0]),
+        block(Kind::Lever, [0, 1, 0]).with_support([0, -1, 0]),
+        block(Kind::RedstoneTorch, [1, 0, 0]).with_support([-1, 0, 0]),
+        block(Kind::Solid, [1, 1, 0]),
+        block(Kind::RedstoneWire, [1, 2, 0]),
+        block(Kind::RedstoneLamp, [2, 1, 0]),
+        block(Kind::Repeater, [1, 1, 1]).with_facing(Facing::South),
+        block(Kind::RedstoneTorch, [1, 1, -1]).with_support([0, 0, 1]),
+    ];
+    Case::new("charged", BENCH_PROFILE, rows)
 }
 
 /// A lever on a lamp, as for test 10.

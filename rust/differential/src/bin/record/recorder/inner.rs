@@ -1,19 +1,19 @@
 //! Operations 1 to 6: traits, names, look-ups, supports, properties and positions.
 
 use differential::compare::{Answer, Answers};
-use differential::generate::{BENCH_PROFILE, Case};
+use differential::generate::{BENCH_PROFILE, Case, TORCH};
 use differential::oracle::Oracle;
 use differential::random::Random;
 use differential::table::{self, Position};
 use differential::world::{self, Name, WorldQuery};
-use redstone::{FARTHEST, Kind, Row, Shape};
+use redstone::{FARTHEST, Kind, Row, Shape, TORCH_CHARGES_ABOVE};
 
 use super::record::Record;
 use super::{MOST_ROWS, small_cases};
 
-const TABLES: usize = 70;
+const TABLES: usize = 45;
 /// Each look-up has its table with it, so these are the smaller ones.
-const LOOK_UP_TABLES: usize = 60;
+const LOOK_UP_TABLES: usize = 45;
 const MOST_LOOK_UP_ROWS: usize = 16;
 const ROWS_LOOKED_UP: usize = 1;
 const POSITIONS_LOOKED_UP: usize = 2;
@@ -96,12 +96,24 @@ fn every_block() -> impl Iterator<Item = Case> {
     [half(first), half(second)].into_iter()
 }
 
-/// Every kind in the plain shape, with every byte that a profile may have for it.
+/// Every kind in the plain shape, with every byte that a profile may have for it: the torch alone past 31.
 fn every_plain_block() -> Vec<Case> {
-    let profile = |byte| std::array::from_fn(|kind| if kind == 0 { 0 } else { byte });
-    let plain = || Kind::ALL.iter().map(|kind| (*kind, Shape::Plain));
-    let case = |byte| blocks("every kind", profile(byte), plain());
-    (0..=31).map(case).collect()
+    let every_kind = |byte| plain_blocks(all_kinds(byte), Kind::ALL);
+    let torch = |byte| {
+        let mut profile = all_kinds(byte);
+        profile[TORCH] |= TORCH_CHARGES_ABOVE;
+        plain_blocks(profile, &[Kind::RedstoneTorch])
+    };
+    (0..=31).map(every_kind).chain((0..=31).map(torch)).collect()
+}
+
+/// The profile with this byte for every kind but Air.
+fn all_kinds(byte: u8) -> [u8; 13] {
+    std::array::from_fn(|kind| if kind == 0 { 0 } else { byte })
+}
+
+fn plain_blocks(profile: [u8; 13], kinds: &[Kind]) -> Case {
+    blocks("plain blocks", profile, kinds.iter().map(|kind| (*kind, Shape::Plain)))
 }
 
 /// Names with each ending that has a shape and some that have none, with each value of `type` and `half`.
