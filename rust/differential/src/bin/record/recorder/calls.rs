@@ -23,7 +23,7 @@ const LEAST_ROUNDS: u32 = 3;
 /// Of the limits for a device column of a generated table this many are kept.
 const LIMITS_KEPT: usize = 2;
 
-/// Of the tables in which a torch charges a block.
+/// So many of the tables in which a torch charges a block are settled, and run.
 const CHARGING_TABLES: usize = 5;
 const CHARGING_RUNS: usize = 2;
 
@@ -205,16 +205,15 @@ fn lively_runs(seed: u64, random: &mut Random) -> impl Iterator<Item = Vec<Recor
 /// A lever puts out a torch, and so takes the charge from the block over it, which dust, a lamp, a repeater and another
 /// torch read.
 fn charged() -> Case {
-    let block = |kind, position| Row::new(kind, position);
     let rows = [
-        block(Kind::Solid, [0, 0, 0]),
-        block(Kind::Lever, [0, 1, 0]).with_support([0, -1, 0]),
-        block(Kind::RedstoneTorch, [1, 0, 0]).with_support([-1, 0, 0]),
-        block(Kind::Solid, [1, 1, 0]),
-        block(Kind::RedstoneWire, [1, 2, 0]),
-        block(Kind::RedstoneLamp, [2, 1, 0]),
-        block(Kind::Repeater, [1, 1, 1]).with_facing(Facing::South),
-        block(Kind::RedstoneTorch, [1, 1, -1]).with_support([0, 0, 1]),
+        Row::new(Kind::Solid, [0, 0, 0]),
+        Row::new(Kind::Lever, [0, 1, 0]).with_support([0, -1, 0]),
+        Row::new(Kind::RedstoneTorch, [1, 0, 0]).with_support([-1, 0, 0]),
+        Row::new(Kind::Solid, [1, 1, 0]),
+        Row::new(Kind::RedstoneWire, [1, 2, 0]),
+        Row::new(Kind::RedstoneLamp, [2, 1, 0]),
+        Row::new(Kind::Repeater, [1, 1, 1]).with_facing(Facing::South),
+        Row::new(Kind::RedstoneTorch, [1, 1, -1]).with_support([0, 0, 1]),
     ];
     Case::new("charged", BENCH_PROFILE, rows)
 }
