@@ -12,11 +12,11 @@ use Rattle.columns.specs.Column.{Bytes}
 use Rattle.blocks.specs.Kind.{RedstoneTorch}
 use Rattle.blocks.specs.Profile.{says, torchChargesAbove, propertiesOf}
 
--- the profile without the value
+-- the profile without the value: the torch's byte has the values below 32 alone
 abbrev pub withoutValue : Bytes → Bytes
 withoutValue p = set p RedstoneTorch (getD p RedstoneTorch 0 % 32)
 
--- the torch's byte is what 32 leaves of it,
+-- the torch's byte is its remainder by 32,
 pub torch-byte : (p : Bytes) → getD (withoutValue p) RedstoneTorch 0 ≡ getD p RedstoneTorch 0 % 32
 torch-byte p =
     by-cases (decLt RedstoneTorch (length p)) (λ l. getD-set-same p RedstoneTorch _ 0 l)
@@ -30,7 +30,7 @@ pub value-gone : (p : Bytes) → torchChargesAbove (withoutValue p) ≡ false
 unfolding says
 value-gone p = rw (torch-byte p) (ne-eqb (getD p RedstoneTorch 0 % 32 / 32 % 2) 1 (λ e. omega arith))
 
--- what 32 leaves has the lower values
+-- the remainder by 32 has the lower values
 low-1 : (b : ℕ) → b % 32 / 1 % 2 ≡ b / 1 % 2
 low-1 b = omega arith
 
@@ -46,7 +46,7 @@ low-8 b = omega arith
 low-16 : (b : ℕ) → b % 32 / 16 % 2 ≡ b / 16 % 2
 low-16 b = omega arith
 
--- so is every property of every kind
+-- every property of every kind is as it was
 pub same-properties : (p : Bytes) (k : ℕ) → propertiesOf (withoutValue p) k ≡ propertiesOf p k
 unfolding propertiesOf says
 same-properties p k = by-cases (ℕ-discrete k RedstoneTorch) (λ e. rw (e, torch-byte p, low-1 _, low-2 _, low-4 _, low-8 _, low-16 _) refl) (λ n. rw (other-byte p k n) refl)

@@ -95,7 +95,7 @@ pub all-fails : (f : ℕ → Bool) (n k : ℕ) → k < n → f k ≡ false → a
 all-fails f zero k h e = absurd (not-suc-le-zero h)
 all-fails f (suc n) k h e = ⊎-elim (λ p. and-false-right (allBelow f n) (f n) (rw (← p) e)) (λ l. and-false-left (allBelow f n) (f n) (all-fails f n k l e)) (eq-or-lt-of-le (le-of-suc-le-suc h))
 
--- two tests that answer alike below n
+-- two tests that answer alike below n hold of all below n alike
 pub all-same : (f g : ℕ → Bool) (n : ℕ) → ((k : ℕ) → k < n → f k ≡ g k) → allBelow f n ≡ allBelow g n
 all-same f g zero h = refl
 all-same f g (suc n) h = rw (all-same f g n (λ k l. h k (omega arith)), h n (le-refl _)) refl

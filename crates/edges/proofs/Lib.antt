@@ -1,2 +1,3 @@
 pub mod Apart
 pub mod Networks
+pub mod Torches

@@ -53,17 +53,17 @@ level-given t i b m cap h =
     (either (isSwitch (kindOf t i)) (either (isPowered t i) (le-trans (min-le-left 15 _) cap) zero-le)
     (either (isOnOff (kindOf t i)) (either (eqb b 0) zero-le cap) h))
 
--- which is the device byte,
+-- which is the device byte;
 pub level-byte : (t : Bytes) (i b m : ℕ) → maxSignal ≤ m → b ≤ m → emittedLevel t i b ≤ m
 level-byte t i b m cap h = level-given t i b m cap (either (eqb (kindOf t i) Comparator) h zero-le)
 
--- and nothing of any other kind
-pub level-capped : (t : Bytes) (i b : ℕ) → ¬ (kindOf t i ≡ Comparator) → emittedLevel t i b ≤ maxSignal
-level-capped t i b n = level-given t i b maxSignal (le-refl maxSignal) (rw (ne-eqb (kindOf t i) Comparator n) zero-le)
-
--- and so is a row of the column of them
+-- and so is a row of the column of them.
 pub emitted-byte : (t : Bytes) (d : Column) (m : ℕ) → maxSignal ≤ m → ((i : ℕ) → row d i ≤ m) → (i : ℕ) → row (emitted t d) i ≤ m
 unfolding emitted
 emitted-byte t d m cap h i =
     by-cases (decLt i (rows t)) (λ l. rw (row-tabulate (rows t) _ i l) (level-byte t i (row d i) m cap (h i)))
     (λ n. rw (row-past (rows t) (λ i. emittedLevel t i (row d i)) i (omega arith)) zero-le)
+
+-- of any other kind it is at most the cap
+pub level-capped : (t : Bytes) (i b : ℕ) → ¬ (kindOf t i ≡ Comparator) → emittedLevel t i b ≤ maxSignal
+level-capped t i b n = level-given t i b maxSignal (le-refl maxSignal) (rw (ne-eqb (kindOf t i) Comparator n) zero-le)

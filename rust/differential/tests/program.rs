@@ -10,11 +10,11 @@ fn the_original_was_not_found() {
 mod compared {
     use std::io::Write;
 
-    use differential::generate::{BENCH_PROFILE, Case};
+    use differential::generate::{BENCH_PROFILE, Case, TORCH};
     use differential::program::{find, run};
     use differential::settle::{MOST_BYTES, expected};
     use differential::suite::{good_cases, with_damaged};
-    use redstone::{Kind, Row};
+    use redstone::{Kind, PROFILE_BYTES, Row};
 
     /// Asserts that the program writes for each input what document 01 says, and gives that back.
     fn assert_agrees(inputs: impl Iterator<Item = Vec<u8>>) -> Vec<String> {
@@ -48,6 +48,29 @@ mod compared {
         let lengths = (0..=14).chain(43..=46).chain(76..=78).chain(MOST_BYTES - 33..=MOST_BYTES + 1);
         assert_agrees(lengths.chain([long.len()]).map(|length| long[..length].to_vec()));
         assert_agrees([32_814, 65_536, 65_549, 1_000_000].into_iter().map(|length| vec![0; length]));
+    }
+
+    /// A torch, a block over it and dust on that, by profiles with these bytes for each kind.
+    #[test]
+    fn profile_bytes_about_the_ends() {
+        let kinds = [Kind::RedstoneTorch, Kind::Solid, Kind::RedstoneWire];
+        let table = redstone::table((0..).zip(kinds).map(|(y, kind)| Row::new(kind, [0, y, 0])));
+        for kind in 0..PROFILE_BYTES {
+            let most = match kind {
+                0 => 0,
+                TORCH => 63,
+                _ => 31,
+            };
+            for byte in [0, 31, 32, 33, 63, 64, 96, 255] {
+                let mut profile = BENCH_PROFILE;
+                profile[kind] = byte;
+                let written = assert_agrees([[&profile[..], &table].concat()].into_iter()).concat();
+                let is_refused = written == "refusal=1\nplace=0\n";
+                assert_eq!(is_refused, byte > most, "{byte} for kind {kind}");
+                let is_charged = written.contains("\nrow=0,1,0,0,15,15\n");
+                assert_eq!(is_charged, kind == TORCH && !is_refused && byte > 31, "{byte} for kind {kind}");
+            }
+        }
     }
 
     /// Test 3 of the book.

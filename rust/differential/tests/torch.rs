@@ -4,14 +4,14 @@ use std::io::Write;
 
 use differential::compare::{compare, run};
 use differential::differences::{Example, Fault, Proved, check, examples};
-use differential::generate::{self, BENCH_PROFILE, Case};
+use differential::generate::{self, BENCH_PROFILE, Case, TORCH};
 use differential::probe::{Probe, probe_check};
 use differential::suite::{assert_compared, at_least_good_cases};
-use differential::table::{self, ABOVE};
+use differential::table;
 use differential::torch::{
     BYTES, MISREADINGS, Misreading, Pair, Reading, TRIALS, Trial, charge, pairs, profile, queries, torches,
 };
-use redstone::{Circuit, Columns, Kind, PROFILE_BYTES, Refusal, Row, STATE_BYTES, Settled, Shape};
+use redstone::{Circuit, Kind, PROFILE_BYTES, Row, Settled, Shape};
 
 const LIMIT: u32 = 128;
 const GENERATED_TABLES: u64 = 20_000;
@@ -165,25 +165,6 @@ fn no_block_is_charged_but_the_one_above() {
     assert_eq!(charged, torches().count());
 }
 
-fn columns(bytes: &mut [[u8; 2]; 3]) -> Columns<'_> {
-    let [signal, weak, strong] = bytes;
-    Columns { signal, weak, strong }
-}
-
-/// What each call says of a profile, with a torch and a block.
-fn answers(profile: &[u8]) -> [Result<(), Refusal>; 6] {
-    let rows = [Row::new(Kind::RedstoneTorch, [0; 3]), Row::new(Kind::Solid, ABOVE)];
-    let (table, state, lent) = (&mut redstone::table(rows), &mut [0; 2 * STATE_BYTES], &mut [[0; 2]; 3]);
-    [
-        redstone::fresh(profile, table, state, columns(lent)).map(drop),
-        redstone::settle(profile, table, &[0; 2], LIMIT, columns(lent)).map(drop),
-        redstone::tick(profile, table, state, 0, 1, columns(lent)).map(drop),
-        redstone::switch(profile, table, state, [0; 3], true, columns(lent)).map(drop),
-        redstone::redraw(profile, table),
-        redstone::supports(profile, table, &mut [0; 2]).map(drop),
-    ]
-}
-
 #[test]
 fn the_torchs_byte_alone_reaches_63() {
     let mut refused = [0; PROFILE_BYTES];
@@ -193,15 +174,12 @@ fn the_torchs_byte_alone_reaches_63() {
             profile[kind] = byte;
             let most = match kind {
                 0 => 0,
-                4 => 63,
+                TORCH => 63,
                 _ => 31,
             };
-            let expected = if byte <= most { Ok(()) } else { Err((1, 0)) };
-            for answer in answers(&profile) {
-                assert_eq!(answer.map_err(|refusal| (refusal.number, refusal.row)), expected, "{profile:?}");
-            }
-            assert_eq!(probe_check(&profile, &[]), if byte <= most { 0 } else { 65_536 }, "{profile:?}");
-            *refused += usize::from(expected.is_err());
+            let answer = probe_check(&profile, &[]);
+            assert_eq!(answer, if byte <= most { 0 } else { 65_536 }, "{profile:?}");
+            *refused += usize::from(answer > 0);
         }
     }
     assert_eq!(refused, [255, 224, 224, 224, 192, 224, 224, 224, 224, 224, 224, 224, 224]);
@@ -280,7 +258,7 @@ mod compared {
         });
     }
 
-    /// A hundred ticks, one by one, of which the fiftieth is followed by the throw of every switch.
+    /// A hundred ticks, one by one, of which the fiftieth is followed by the throw of every lever.
     fn steps(rows: &[Row]) -> Vec<Step> {
         let levers = rows.iter().filter(|row| row.kind() == Kind::Lever);
         let throws =

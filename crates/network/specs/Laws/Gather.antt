@@ -1,4 +1,4 @@
--- What arrives at a row, as code finds it: from source to source, or from the few rows where an edge can start.
+-- What arrives at a row, as code finds it: from source to source, or from the few rows where an edge can start; and by either of two edges.
 -- Proved laws: nobody has to believe them, or read them to know what is promised. Assumes nothing.
 use mathlib.Core.Path.{_≡_, refl}
 use mathlib.Core.Logic.{⊎-elim}

@@ -11,7 +11,7 @@ pub struct Misreading {
     pub charge: Charge,
 }
 
-pub const MISREADINGS: [Misreading; 24] = [
+pub const MISREADINGS: [Misreading; 23] = [
     Misreading { what: "no torch charges", charge: |_, _, _| 0 },
     Misreading {
         what: "torches charge without the value",
@@ -21,13 +21,6 @@ pub const MISREADINGS: [Misreading; 24] = [
         what: "the value is 16",
         charge: |settling, from, to| {
             let has_value = settling.profile[TORCH] & 16 != 0;
-            power(has_value && settling.is_lit_torch(from) && is_charged(settling, from, to))
-        },
-    },
-    Misreading {
-        what: "the value is the lever's",
-        charge: |settling, from, to| {
-            let has_value = settling.profile[usize::from(Kind::Lever.code())] & 32 != 0;
             power(has_value && settling.is_lit_torch(from) && is_charged(settling, from, to))
         },
     },

@@ -150,7 +150,7 @@ pub const TRIALS: [Trial; 31] = [
         with: "row=0,1,0,0,0,15\nlamp=0,1,0,1\n",
     },
     Trial {
-        what: "a double slab of glass over the torch",
+        what: "a double slab of kind Transparent over the torch",
         rows: "0,0,0 RedstoneTorch\n0,1,0 Transparent shape=double_slab\n0,2,0 RedstoneWire\n",
         without: "row=0,1,0,0,0,0\nrow=0,2,0,0,0,0\n",
         with: "row=0,1,0,0,15,15\nrow=0,2,0,15,0,0\n",

@@ -214,14 +214,16 @@ const RULES: &[Rule] = &[
     },
     Rule {
         number: 22,
-        sentence: "a block is over it, and takes its power in the game, not here: have RedstoneTorch=32 in the profile, \
+        sentence: "a block is over it, and takes its power in the game, not here: add 32 to RedstoneTorch in the profile, \
                    as in `profile Solid=31 Transparent=1 RedstoneLamp=31 RedstoneBlock=1 RedstoneTorch=32` before the \
                    rows, or lead dust from the torch",
         holds: |view, row| {
             view.kind(row) == Kind::RedstoneTorch
                 && !view.torches_charge_above()
                 && view.ever_gives(row)
-                && view.at(row, Facing::Up).is_some_and(|block| view.takes_power(block))
+                && view
+                    .at(row, Facing::Up)
+                    .is_some_and(|block| view.takes_power(block) && !view.stands_on(row, block))
         },
     },
     Rule {

@@ -72,7 +72,7 @@ const WITHOUT: [u8; 23] =
 fn the_tables_of_an_entry_give_its_hint() {
     let document = document();
     let entries = entries(&document);
-    let (mut with, mut cured) = (BTreeSet::new(), BTreeSet::new());
+    let (mut with, mut by_profile) = (BTreeSet::new(), BTreeSet::new());
     for (number, entry) in &entries {
         if WITHOUT.contains(number) {
             continue;
@@ -84,7 +84,7 @@ fn the_tables_of_an_entry_give_its_hint() {
             let is_given = found.contains(number);
             if has_profile(&table) {
                 assert!(!is_given, "a table of entry {number}, by its profile, gives {found:?}:\n{table}");
-                cured.insert(*number);
+                by_profile.insert(*number);
             } else if is_given {
                 with.insert(*number);
             } else {
@@ -95,7 +95,7 @@ fn the_tables_of_an_entry_give_its_hint() {
     }
     let all: BTreeSet<_> = entries.keys().copied().filter(|number| !WITHOUT.contains(number)).collect();
     assert_eq!(with, all);
-    assert!(cured.contains(&22), "no table of entry 22 says its profile");
+    assert_eq!(by_profile, BTreeSet::from([22, 23]));
 }
 
 /// Where the bench agrees with the game, the only hints are of fields that the tables leave out, and of devices that are
@@ -257,6 +257,13 @@ fn who_writes_the_line_of_the_hint_has_torches_that_charge_the_block_above() {
     let of_torch = |line: &&str| line.starts_with("profile ") && line.contains("RedstoneTorch=");
     let lines: Vec<_> = readme.lines().filter(of_torch).collect();
     assert_eq!(lines, [line_of_hint()]);
+}
+
+/// With the value it would put itself out, and in the game there is no such torch.
+#[test]
+fn a_torch_that_hangs_from_the_block_over_it_is_not_to_charge_it() {
+    assert!(numbers("0,0,0 RedstoneTorch support=0,-1,0\n0,1,0 Solid\n").contains(&22));
+    assert!(!numbers("0,0,0 RedstoneTorch support=0,1,0\n0,1,0 Solid\n").contains(&22));
 }
 
 /// In the game no torch burns out in the clock of entry 44, so that the hint does not say that it does.
