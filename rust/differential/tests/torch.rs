@@ -246,6 +246,7 @@ mod compared {
     };
     use original::electrical::DeviceOutputState;
     use original::unpatched;
+    use redstone::STATE_BYTES;
 
     use super::*;
 
