@@ -51,7 +51,7 @@ apart true true b c d = refl
 apart true false true c d = refl
 apart true false false c d = refl
 
--- "Without it the answer is the Rust's": the network is document 01's,
+-- "Without it the answer is the Rust's": strong power has document 01's edges and no others,
 pub network-without-value : (p t : Bytes) → torchChargesAbove p ≡ false → networkOf p t ≡ network01 p t
 unfolding networkOf networkBy emittedToStrong
 network-without-value p t clear = λ x. withStrong (networkOf p t) (λ j i. edge j i x)
@@ -133,6 +133,6 @@ module _ (p t : Bytes) where
         strongToDust = λ j i. strong-to-dust j i x;
       }
 
-  -- so that the network without the value is document 01's, by whichever of the two profiles
+  -- so that every edge but those of strong power is the same by the two profiles
   pub network-of-rest : networkOf (withoutValue p) t ≡ network01 p t
   network-of-rest = network-without-value (withoutValue p) t (value-gone p) ∙ same-01
