@@ -45,6 +45,10 @@ RedstoneBlock = 11
 abbrev pub Piston : ℕ
 Piston = 12
 
+-- "Kind 13 is a bulb": document 02, Change 4. The original has none
+abbrev pub CopperBulb : ℕ
+CopperBulb = 13
+
 -- the number is one of the list
 abbrev pub oneOf : List ℕ → ℕ → Bool
 oneOf [] k = false

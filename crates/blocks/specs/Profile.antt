@@ -1,8 +1,9 @@
 -- The profile: "13 bytes, one per kind from 0, sums of: 1 supports components, 2 receives weak power, 4 receives strong power,
--- 8 repeater reads block power, 16 strong power drives dust"; and "for the torch only" 32, by which a lit torch charges the block above.
+-- 8 repeater reads block power, 16 strong power drives dust"; "for the torch only" 32, by which a lit torch charges the block above; and it
+-- "may have 14 bytes", the last of them the bulb's.
 -- Assumes nothing.
 use mathlib.Core.Bool.{Bool}
-use mathlib.Core.List.{[], _∷_}
+use mathlib.Core.List.{[], _∷_, _++_}
 use Prim.Native.Nat.{ℕ, _/_, _%_}
 use lib.ListN.{getD}
 use lib.Dec.{eqb}
@@ -47,3 +48,7 @@ propertiesOf profile kind =
 -- "The bench profile is ours: Solid and RedstoneLamp 31, Transparent and RedstoneBlock 1, the rest 0"
 abbrev pub benchProfile : Bytes
 benchProfile = 0 ∷ 31 ∷ 1 ∷ 0 ∷ 0 ∷ 0 ∷ 0 ∷ 0 ∷ 0 ∷ 0 ∷ 31 ∷ 1 ∷ 0 ∷ []
+
+-- and with a byte for the bulb: it supports components and receives weak and strong power, and gives none on
+abbrev pub benchProfileWithBulb : Bytes
+benchProfileWithBulb = benchProfile ++ 7 ∷ []

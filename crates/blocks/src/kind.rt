@@ -24,3 +24,5 @@ pub const REDSTONE_LAMP: u8 = 10;
 pub const REDSTONE_BLOCK: u8 = 11;
 
 pub const PISTON: u8 = 12;
+
+pub const COPPER_BULB: u8 = 13;

@@ -56,7 +56,7 @@ width Zero31 = 1
 -- field f of row i is within the layout
 abbrev pub goodField : Bytes → ℕ → Field → Bool
 goodField t i Place = goodPlace (posOf t i)
-goodField t i Kind = leb 1 (byteOf t i 12) && leb (byteOf t i 12) 12
+goodField t i Kind = leb 1 (byteOf t i 12) && leb (byteOf t i 12) 13
 goodField t i Facing = leb (byteOf t i 13) 6
 goodField t i Powered = leb (byteOf t i 14) 2
 goodField t i Level = goodValue t i 15

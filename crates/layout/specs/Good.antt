@@ -16,13 +16,17 @@ use Rattle.world.specs.Rows.{byteOf, posOf}
 abbrev pub mostOf : ℕ → ℕ
 mostOf kind = cond (eqb kind RedstoneTorch) 63 31
 
--- none of the 13 bytes is above the most of its kind
-abbrev pub lowBytes : Bytes → Bool
-lowBytes p = allBelow (λ k. leb (getD p k 0) (mostOf k)) 13
+-- "the profile may have 14 bytes"
+abbrev pub goodLength : Bytes → Bool
+goodLength p = eqb (length p) 13 || eqb (length p) 14
 
--- number 1 does not fall on the profile: "not 13 bytes, Air not 0, or a byte above 31", the torch's above 63
+-- none of at most 14 bytes is above the most of its kind
+abbrev pub lowBytes : Bytes → Bool
+lowBytes p = allBelow (λ k. leb (getD p k 0) (mostOf k)) 14
+
+-- number 1 does not fall on the profile: "not 13 bytes, Air not 0, or a byte above 31", but that it may have 14 bytes, and the torch's be 63
 unfoldable pub goodProfile : Bytes → Bool
-goodProfile p = eqb (length p) 13 && (eqb (getD p 0 0) 0 && lowBytes p)
+goodProfile p = goodLength p && (eqb (getD p 0 0) 0 && lowBytes p)
 
 -- "each from -1,000,000 to 1,000,000"
 abbrev pub inRange : ℤ → Bool
@@ -33,9 +37,9 @@ unfoldable pub goodPlace : Pos → Bool
 goodPlace q = inRange (q .x) && inRange (q .y) && inRange (q .z)
 
 module _ (t : Bytes) (i : ℕ) where
-  -- 12 to 14: kind 1 to 12 ("0 is Air and never stored"), facing 0 to 6, powered 0 to 2
+  -- 12 to 14: kind 1 to 13 ("0 is Air and never stored"; "Kind 13 is a bulb"), facing 0 to 6, powered 0 to 2
   abbrev pub goodKind : Bool
-  goodKind = leb 1 (byteOf t i 12) && leb (byteOf t i 12) 12 && leb (byteOf t i 13) 6 && leb (byteOf t i 14) 2
+  goodKind = leb 1 (byteOf t i 12) && leb (byteOf t i 12) 13 && leb (byteOf t i 13) 6 && leb (byteOf t i 14) 2
 
   -- "given 0/1, its value 0-255"; "A value whose "given" or "stored" byte is 0 is 0"
   abbrev pub goodValue : ℕ → Bool

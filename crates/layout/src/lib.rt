@@ -24,12 +24,12 @@ fn most_of(kind: usize) -> u8
     }
 }
 
-// Whether none of the 13 bytes is above the most of its kind.
+// Whether none of at most 14 bytes is above the most of its kind.
 fn low_bytes(profile: &[u8]) -> bool
     ensures { λ r. ⌜ r ≡ lowBytes (now (profile .entry)) ⌝ }
 {
     let mut k = 0;
-    while k < 13 {
+    while k < 14 {
         if most_of(k) < byte_at(profile, k) {
             return false;
         }
@@ -38,11 +38,12 @@ fn low_bytes(profile: &[u8]) -> bool
     true
 }
 
-// Whether a profile has 13 bytes, 0 for Air and none above the most of its kind.
+// Whether a profile has 13 or 14 bytes, 0 for Air and none above the most of its kind.
 pub fn good_profile(profile: &[u8]) -> bool
     ensures { λ r. ⌜ r ≡ goodProfile (now (profile .entry)) ⌝ }
 {
-    (profile.len() == 13) & ((byte_at(profile, 0) == 0) & low_bytes(profile))
+    ((profile.len() == 13) | (profile.len() == 14))
+        & ((byte_at(profile, 0) == 0) & low_bytes(profile))
 }
 
 fn in_range(c: i32) -> bool
@@ -61,7 +62,7 @@ fn good_kind(table: &[u8], row: usize) -> bool
     ensures { λ r. ⌜ r ≡ goodKind (now (table .entry)) row ⌝ }
 {
     (1 <= byte_of(table, row, 12))
-        & (byte_of(table, row, 12) <= 12)
+        & (byte_of(table, row, 12) <= 13)
         & (byte_of(table, row, 13) <= 6)
         & (byte_of(table, row, 14) <= 2)
 }

@@ -159,6 +159,7 @@ redrawn-changes p t w =
       long = redrawn-alike p t w .long;
       agree = λ i b l e. redrawn-keeps p t w i b (l, e);
       places = λ i. refl;
+      kinds = λ i. refl;
       good = λ i l g. rw (good-arms i l (good-field t i g ArmsField));
     }
   where

@@ -2,24 +2,25 @@
 -- Assumes nothing.
 use mathlib.Core.Path.{_≡_, refl, ap, sym}
 use mathlib.Core.Logic.{by-cases}
-use mathlib.Core.Bool.{true, not}
+use mathlib.Core.Bool.{true, not, _&&_}
 use Prim.Native.Nat.{ℕ, zero, suc, _+_, _-_, _%_, _<_}
 use native.Mathlib.Decide.{decLt}
 use native.Mathlib.Omega.{arith}
 use lib.ListN.{length}
-use lib.Dec.{eqb, leb}
-use borrow.Author.Tests.{eqb-true, eq-eqb, leb-true, le-leb, not-false}
+use lib.Dec.{eqb, leb, ltb}
+use borrow.Author.Tests.{eqb-true, eq-eqb, leb-true, le-leb, ltb-true, lt-ltb, not-false}
 use Rattle.columns.specs.declared.Found.the-variants.{At}
 use Rattle.columns.specs.Column.{Bytes}
 use Rattle.places.specs.declared.Pos.{Pos}
 use Rattle.places.specs.Places.{before}
 use Rattle.places.proofs.Order.{before-irrefl, before-trans, before-asym}
 use Rattle.places.proofs.Steps.{InRange}
-use Rattle.world.specs.Rows.{rows, posOf}
+use Rattle.columns.proofs.Truth.{and-true}
+use Rattle.world.specs.Rows.{rows, posOf, kindOf}
 use Rattle.world.specs.Find.{find, InOrder}
 use Rattle.world.proofs.Finding.{find-first}
 use Rattle.refusals.specs.declared.Checked.the-variants.{Accepted}
-use Rattle.layout.specs.Good.{goodProfile}
+use Rattle.layout.specs.Good.{goodProfile, goodRow}
 use Rattle.refusals.specs.Accepted.{Table}
 use Rattle.refusals.specs.Check.{isBad, isMisplaced, checkRows, checkTable, checkInput, IsAccepted}
 use Rattle.refusals.proofs.Passed.{passed-unless, unless-passes, passed-rows, rows-pass}
@@ -27,38 +28,52 @@ use Rattle.layout.proofs.Fields.{Place, good-field, good-range}
 
 -- ---- an accepted table
 
-pub accepted-table : (t : Bytes) → checkTable t ≡ Accepted → Table t
+-- every row is of one of the kinds that the profile has a byte for
+abbrev pub OfKinds : ℕ → Bytes → Type 0
+OfKinds kinds t = (i : ℕ) → i < rows t → kindOf t i < kinds
+
+accepted-rows : (kinds : ℕ) (t : Bytes) → checkTable kinds t ≡ Accepted → Table t × OfKinds kinds t
 unfolding checkTable checkRows
-accepted-table t h =
+accepted-rows kinds t h =
     let (a, g) = passed-unless 2 (eqb (length t % 32) 0) _ h in
     let (b, f) = passed-unless 3 (leb (rows t) 1024) _ g in
-    let (good, e) = passed-rows 4 0 (isBad t) (rows t) _ f in
+    let (good, e) = passed-rows 4 0 (isBad kinds t) (rows t) _ f in
     let (ordered, _) = passed-rows 5 1 (isMisplaced t) (rows t - 1) _ e in
     let whole : length t % 32 ≡ 0 = eqb-true _ _ a in
-    record {
-      whole = omega arith;
-      few = leb-true _ _ b;
-      good = λ i l. not-false _ (good i l);
-      ordered = λ i l. not-false _ (ordered i (omega arith));
-    }
+    let both : (i : ℕ) → i < rows t → (goodRow t i ≡ true) × (ltb (kindOf t i) kinds ≡ true) = λ i l. and-true _ _ (not-false _ (good i l)) in (
+      record {
+        whole = omega arith;
+        few = leb-true _ _ b;
+        good = λ i l. both i l .0;
+        ordered = λ i l. not-false _ (ordered i (omega arith));
+      },
+      λ i l. ltb-true _ _ (both i l .1),
+    )
+
+pub accepted-table : (kinds : ℕ) (t : Bytes) → checkTable kinds t ≡ Accepted → Table t
+accepted-table kinds t h = accepted-rows kinds t h .0
 
 -- and a table that is so is accepted
-pub table-accepted : (t : Bytes) → Table t → checkTable t ≡ Accepted
+pub table-accepted : (kinds : ℕ) (t : Bytes) → Table t → OfKinds kinds t → checkTable kinds t ≡ Accepted
 unfolding checkTable checkRows
-table-accepted t a =
+table-accepted kinds t a k =
     unless-passes 2 (eqb (length t % 32) 0) _ (eq-eqb (length t % 32) 0 (omega (arith, a .whole)))
     (unless-passes 3 (leb (rows t) 1024) _ (le-leb _ 1024 (a .few))
-    (rows-pass 4 0 (isBad t) (rows t) _ (λ i l. ap not (a .good i l))
+    (rows-pass 4 0 (isBad kinds t) (rows t) _ (λ i l. rw (a .good i l, lt-ltb _ kinds (k i l)))
     (rows-pass 5 1 (isMisplaced t) (rows t - 1) Accepted (λ i l. ap not (a .ordered i (omega arith))) refl)))
 
 -- of a call with the profile
+pub accepted-kinds : (p t : Bytes) → checkInput p t ≡ Accepted → OfKinds (length p) t
+unfolding checkInput
+accepted-kinds p t h = accepted-rows (length p) t (passed-unless 1 (goodProfile p) _ h .1) .1
+
 pub accepted-input : (p t : Bytes) → checkInput p t ≡ Accepted → (goodProfile p ≡ true) × Table t
 unfolding checkInput
-accepted-input p t h = let (a, b) = passed-unless 1 (goodProfile p) _ h in (a, accepted-table t b)
+accepted-input p t h = let (a, b) = passed-unless 1 (goodProfile p) _ h in (a, accepted-table (length p) t b)
 
-pub input-accepted : (p t : Bytes) → goodProfile p ≡ true → Table t → IsAccepted p t
+pub input-accepted : (p t : Bytes) → goodProfile p ≡ true → Table t → OfKinds (length p) t → IsAccepted p t
 unfolding checkInput
-input-accepted p t g a = rw (g, table-accepted t a)
+input-accepted p t g a k = rw (g, table-accepted (length p) t a k)
 
 module _ (t : Bytes) (a : Table t) where
   in-order : (i k : ℕ) → i + suc k < rows t → before (posOf t i) (posOf t (i + suc k)) ≡ true

@@ -3,21 +3,23 @@
 use mathlib.Core.Path.{_≡_, ap, sym, _∙_}
 use mathlib.Core.Bool.{Bool, true, false}
 use Prim.Native.Nat.{ℕ, _+_, _*_, _/_, _<_}
+use native.Mathlib.Omega.{arith}
 use lib.ListN.{length}
 use Rattle.columns.specs.Column.{Bytes}
-use Rattle.world.specs.Rows.{rows, byteOf, posOf}
+use Rattle.world.specs.Rows.{rows, byteOf, posOf, kindOf}
 use Rattle.layout.specs.Good.{goodRow}
 use Rattle.layout.proofs.Fields.{Place, isTouched, goodTouched, place-again, good-again}
 use Rattle.refusals.specs.Accepted.{Table}
 use Rattle.refusals.specs.Check.{IsAccepted}
-use Rattle.refusals.proofs.Accepted.{accepted-input, input-accepted}
+use Rattle.refusals.proofs.Accepted.{accepted-input, accepted-kinds, input-accepted}
 
--- u is as long as t, and each of its rows i agrees with that of t outside the bytes that `changed i` names; no position changes, and
--- the changed fields of a row that was good are good
+-- u is as long as t, and each of its rows i agrees with that of t outside the bytes that `changed i` names; no position and no kind
+-- changes, and the changed fields of a row that was good are good
 pub record Changes (changed : ℕ → ℕ → Bool) (t u : Bytes) : Type 0 where
   pub long : length u ≡ length t
   pub agree : (i b : ℕ) → b < 32 → changed i b ≡ false → byteOf u i b ≡ byteOf t i b
   pub places : (i : ℕ) → isTouched (changed i) Place ≡ false
+  pub kinds : (i : ℕ) → changed i 12 ≡ false
   pub good : (i : ℕ) → i < rows t → goodRow t i ≡ true → goodTouched (changed i) u i ≡ true
 
 module _ {changed : ℕ → ℕ → Bool} {t u : Bytes} (c : Changes changed t u) where
@@ -26,6 +28,9 @@ module _ {changed : ℕ → ℕ → Bool} {t u : Bytes} (c : Changes changed t u
 
   same-place : (i : ℕ) → posOf u i ≡ posOf t i
   same-place i = place-again (changed i) t u i i (c .agree i) (c .places i)
+
+  same-kind : (i : ℕ) → kindOf u i ≡ kindOf t i
+  same-kind i = c .agree i 12 (omega arith) (c .kinds i)
 
   pub table-again : Table t → Table u
   table-again a =
@@ -39,4 +44,6 @@ module _ {changed : ℕ → ℕ → Bool} {t u : Bytes} (c : Changes changed t u
       }
 
   pub accepted-again : (p : Bytes) → IsAccepted p t → IsAccepted p u
-  accepted-again p h = let (g, a) = accepted-input p t h in input-accepted p u g (table-again a)
+  accepted-again p h =
+      let (g, a) = accepted-input p t h in
+      input-accepted p u g (table-again a) (λ i l. rw (same-kind i) (accepted-kinds p t h i (rw same-rows at l)))

@@ -85,7 +85,7 @@ input-gives p t =
     unless-gives 2 refl (eqb (length t % 32) 0) _ λ _.
     unless-gives 3 refl (leb (rows t) 1024) _ λ few.
     let rows-few : rows t ≤ 1024 = leb-true _ _ few in
-    first-gives 4 refl (isBad t) (rows t) 0 _ (omega arith)
+    first-gives 4 refl (isBad (length p) t) (rows t) 0 _ (omega arith)
     (first-gives 5 refl (isMisplaced t) (rows t - 1) 1 _ (omega arith) accepted-gives)
 
 -- those of a device column or a state, of n rows

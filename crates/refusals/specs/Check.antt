@@ -1,16 +1,16 @@
 -- Which refusal falls on a call, and what the call answers and writes then.
 -- Assumes nothing.
 use mathlib.Core.Path.{_≡_}
-use mathlib.Core.Bool.{Bool, true, false, not}
+use mathlib.Core.Bool.{Bool, true, false, not, _&&_}
 use Prim.Native.Nat.{ℕ, _+_, _*_, _-_, _%_, _<_}
 use lib.ListN.{length}
-use lib.Dec.{eqb, leb}
+use lib.Dec.{eqb, leb, ltb}
 use Rattle.columns.specs.declared.Found.{Found}
 use Rattle.columns.specs.declared.Found.the-variants.{At, Nothing}
 use Rattle.columns.specs.Column.{Bytes}
 use Rattle.columns.specs.First.{firstFrom}
 use Rattle.places.specs.Places.{before}
-use Rattle.world.specs.Rows.{rows, posOf}
+use Rattle.world.specs.Rows.{rows, posOf, kindOf}
 use Rattle.refusals.specs.declared.Checked.{Checked}
 use Rattle.refusals.specs.declared.Checked.the-variants.{Accepted, Refused}
 use Rattle.layout.specs.Good.{goodProfile, goodRow}
@@ -43,26 +43,27 @@ also c n passed = orElse c (refuseUnless n passed Accepted)
 
 -- ---- the tests of a profile and a table
 
--- 4 bad row: "a field outside the layout"
-abbrev pub isBad : Bytes → ℕ → Bool
-isBad t i = not (goodRow t i)
+-- 4 bad row: "a field outside the layout". The kinds of a profile are those that it has a byte for, and no row may be of another: "with 13 a
+-- bulb row is number 4"
+abbrev pub isBad : ℕ → Bytes → ℕ → Bool
+isBad kinds t i = not (goodRow t i && ltb (kindOf t i) kinds)
 
 -- 5 misplaced: "a position not after the row before", of row i + 1
 abbrev pub isMisplaced : Bytes → ℕ → Bool
 isMisplaced t i = not (before (posOf t i) (posOf t (i + 1)))
 
 -- "4 over all rows before 5"; "The row returned is the first offending"
-unfoldable pub checkRows : Bytes → Checked
-checkRows t =
-    refuseAt 4 0 (firstFrom (isBad t) (rows t) 0) (refuseAt 5 1 (firstFrom (isMisplaced t) (rows t - 1) 0) Accepted)
+unfoldable pub checkRows : ℕ → Bytes → Checked
+checkRows kinds t =
+    refuseAt 4 0 (firstFrom (isBad kinds t) (rows t) 0) (refuseAt 5 1 (firstFrom (isMisplaced t) (rows t - 1) 0) Accepted)
 
 -- 2 ragged: "table length not a multiple of 32"; 3 crowded: "more than 1,024 rows"
-unfoldable pub checkTable : Bytes → Checked
-checkTable t = refuseUnless 2 (eqb (length t % 32) 0) (refuseUnless 3 (leb (rows t) 1024) (checkRows t))
+unfoldable pub checkTable : ℕ → Bytes → Checked
+checkTable kinds t = refuseUnless 2 (eqb (length t % 32) 0) (refuseUnless 3 (leb (rows t) 1024) (checkRows kinds t))
 
 -- 1 profile, and then the table: "Tested in this order"
 unfoldable pub checkInput : Bytes → Bytes → Checked
-checkInput p t = refuseUnless 1 (goodProfile p) (checkTable t)
+checkInput p t = refuseUnless 1 (goodProfile p) (checkTable (length p) t)
 
 -- "A table is accepted if no refusal falls on it or on the profile the call has"
 abbrev pub IsAccepted : Bytes → Bytes → Type 0

@@ -56,19 +56,19 @@ pub fn also(checked: Checked, number: u8, passed: bool) -> Checked
 }
 
 // Refusals 4 and 5, over the rows of a table that is not crowded, so that the number of a row fits.
-fn check_rows(table: &[u8]) -> Checked
+fn check_rows(kinds: usize, table: &[u8]) -> Checked
     requires { ⌜ length (now table) ≤ 32768 ⌝ }
-    ensures { λ r. ⌜ r ≡ checkRows (now (table .entry)) ⌝ }
+    ensures { λ r. ⌜ r ≡ checkRows kinds (now (table .entry)) ⌝ }
 {
     let rows = world::row::rows(table);
-    let bad = refuse_at(4, scan::first_bad(table, rows), 0);
+    let bad = refuse_at(4, scan::first_bad(kinds, table, rows), 0);
     let misplaced = refuse_at(5, scan::first_misplaced(table, rows), 1);
     or_else(bad, misplaced)
 }
 
-// Refusals 2 to 5.
-pub fn check_table(table: &[u8]) -> Checked
-    ensures { λ r. ⌜ r ≡ checkTable (now (table .entry)) ⌝ }
+// Refusals 2 to 5, where a profile has bytes for this many kinds.
+pub fn check_table(kinds: usize, table: &[u8]) -> Checked
+    ensures { λ r. ⌜ r ≡ checkTable kinds (now (table .entry)) ⌝ }
 {
     if table.len() % 32 != 0 {
         return Checked::Refused { number: 2, row: 0 };
@@ -76,7 +76,7 @@ pub fn check_table(table: &[u8]) -> Checked
     if table.len() / 32 > 1024 {
         return Checked::Refused { number: 3, row: 0 };
     }
-    check_rows(table)
+    check_rows(kinds, table)
 }
 
 // Refusals 1 to 5.
@@ -84,7 +84,7 @@ pub fn check_input(profile: &[u8], table: &[u8]) -> Checked
     ensures { λ r. ⌜ r ≡ checkInput (now (profile .entry)) (now (table .entry)) ⌝ }
 {
     if layout::good_profile(profile) {
-        return check_table(table);
+        return check_table(profile.len(), table);
     }
     Checked::Refused { number: 1, row: 0 }
 }

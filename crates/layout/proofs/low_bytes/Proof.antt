@@ -14,10 +14,10 @@ use Rattle.layout.proofs.low_bytes.Statement.{statement}
 use Rattle.layout.proofs.low_bytes.Tie as tie
 
 abbrev Inv-loop : tie.InvT-loop
-Inv-loop profile k₀ k = (k ≤ 13) × (allBelow (λ b. leb (getD profile b 0) (mostOf b)) k ≡ true)
+Inv-loop profile k₀ k = (k ≤ 14) × (allBelow (λ b. leb (getD profile b 0) (mostOf b)) k ≡ true)
 
 abbrev μ-loop : tie.MeasureT-loop
-μ-loop profile k₀ k = 13 - k
+μ-loop profile k₀ k = 14 - k
 
 loop-holds : tie.Need-loop-holds Inv-loop μ-loop
 loop-holds c = (omega arith, refl)
@@ -34,7 +34,7 @@ returns c =
     let a = l .before .before .args .profile .now in
     let k = l .loop .k in
     let e : leb (getD a k 0) (mostOf k) ≡ false = lt-leb (getD a k 0) (mostOf k) (omega (arith, c .before .before .most-of .ensures, c .before .byte-at .ensures)) in
-    sym (all-fails (λ b. leb (getD a b 0) (mostOf b)) 13 k (omega arith) e)
+    sym (all-fails (λ b. leb (getD a b 0) (mostOf b)) 14 k (omega arith) e)
 
 add-k : tie.Need-add-k Inv-loop μ-loop
 add-k c = omega arith
@@ -53,7 +53,7 @@ loop-again c =
 returns-2 : tie.Need-returns-2 Inv-loop μ-loop
 returns-2 c =
     let l = c .before in
-    let e : l .loop .k ≡ 13 = omega arith in
+    let e : l .loop .k ≡ 14 = omega arith in
     sym (rw e at (l .loop .inv .1))
 
 pub low-bytes-spec : {M : Type 1} → statement M

@@ -12,16 +12,22 @@ use Rattle.refusals.proofs.scan.first_bad.Statement.{statement}
 use Rattle.refusals.proofs.scan.first_bad.Tie as tie
 
 abbrev Inv-loop : tie.InvT-loop
-Inv-loop table rows i₀ i = (i ≤ rows) × (firstFrom (isBad table) rows 0 ≡ firstFrom (isBad table) (rows - i) i)
+Inv-loop kinds table rows i₀ i = (i ≤ rows) × (firstFrom (isBad kinds table) rows 0 ≡ firstFrom (isBad kinds table) (rows - i) i)
 
 abbrev μ-loop : tie.MeasureT-loop
-μ-loop table rows i₀ i = rows - i
+μ-loop kinds table rows i₀ i = rows - i
 
 loop-holds : tie.Need-loop-holds Inv-loop μ-loop
 loop-holds c = (omega arith, rw sub-zero)
 
 good-row-requires : tie.Need-good-row-requires Inv-loop μ-loop
 good-row-requires c κs = search needs
+
+kind-of-requires : tie.Need-kind-of-requires Inv-loop μ-loop
+kind-of-requires c κs = search needs
+
+cast-if1 : tie.Need-cast-if1 Inv-loop μ-loop
+cast-if1 c = search needs
 
 add-i : tie.Need-add-i Inv-loop μ-loop
 add-i c = omega arith
@@ -31,14 +37,14 @@ loop-less c = omega arith
 
 loop-again : tie.Need-loop-again Inv-loop μ-loop
 loop-again c =
-    let l = c .before .before .before in
-    let e : isBad (l .before .before .args .table .now) (l .loop .i) ≡ false = ap not (sym (c .before .good-row .ensures) ∙ c .if1 .taken) in
+    let l = c .before .before .before .before in
+    let e : isBad (l .before .before .args .kinds) (l .before .before .args .table .now) (l .loop .i) ≡ false = rw (← c .before .before .good-row .ensures, ← c .before .kind-of .ensures) (ap not (c .if1 .taken)) in
     (omega arith, l .loop .inv .1 ∙ scan-miss _ _ _ (omega arith) e)
 
 returns : tie.Need-returns Inv-loop μ-loop
 returns c =
-    let l = c .before .before .before in
-    let e : isBad (l .before .before .args .table .now) (l .loop .i) ≡ true = ap not (sym (c .before .good-row .ensures) ∙ c .if1 .left) in
+    let l = c .before .before .before .before in
+    let e : isBad (l .before .before .args .kinds) (l .before .before .args .table .now) (l .loop .i) ≡ true = rw (← c .before .before .good-row .ensures, ← c .before .kind-of .ensures) (ap not (c .if1 .left)) in
     sym (l .loop .inv .1 ∙ scan-hit _ _ _ (omega arith) e)
 
 returns-2 : tie.Need-returns-2 Inv-loop μ-loop
@@ -52,6 +58,8 @@ first-bad-spec =
     μ-loop
     loop-holds
     good-row-requires
+    kind-of-requires
+    cast-if1
     add-i
     loop-less
     loop-again
