@@ -26,7 +26,7 @@ module _ (r : Bytes) {signal weak strong signal′ weak′ strong′ : Column} {
   unfolding ticksIn
   ticks-agree h = rw (h .answer, h .state, h .columns .signals, h .columns .weaks, h .columns .strongs)
 
-  pub switch-agrees : {t t′ : Bytes} → Switches (sliceOf r 0) t t′ (sliceOf r 3) (posAt (after r 7) 0) (number r 7 12) signal weak strong signal′ weak′ strong′ n
+  pub switch-agrees : {t t′ st′ : Bytes} → Switches (sliceOf r 0) t t′ (sliceOf r 3) st′ (posAt (after r 7) 0) (number r 7 12) signal weak strong signal′ weak′ strong′ n
       → (eqb n (number r 7 16) && (same t′ (sliceOf r 2) && columnsAgree r 4 5 6 signal′ weak′ strong′)) ≡ switchIn r t signal weak strong
   unfolding switchIn
   switch-agrees h = rw (h .answer, h .table, h .columns .signals, h .columns .weaks, h .columns .strongs)

@@ -183,9 +183,9 @@ switchedFed : Bytes
 unfolding fed
 switchedFed = set fed 78 2
 
-switchesFed : Switches benchProfile fed switchedFed idle (cell (pos 1) (pos 1) (pos 0)) 1 old old old none none none 2
+switchesFed : Switches benchProfile fed switchedFed idle idle (cell (pos 1) (pos 1) (pos 0)) 1 old old old none none none 2
 unfolding computing fed old none idle switchedFed
-switchesFed = record { answer = refl; table = refl; columns = record { signals = refl; weaks = refl; strongs = refl } }
+switchesFed = record { answer = refl; table = refl; state = refl; columns = record { signals = refl; weaks = refl; strongs = refl } }
 
 switch-done : SettledTo benchProfile (switched fed (cell (pos 1) (pos 1) (pos 0)) 1) (devicesOf fed idle) none none none 2
     × (switchedFed ≡ switched fed (cell (pos 1) (pos 1) (pos 0)) 1)

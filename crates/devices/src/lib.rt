@@ -3,7 +3,7 @@ use blocks::kind;
 ghost use mathlib.Core.Path.{_≡_};
 ghost use lib.ListN.{length};
 ghost use Rattle.levels.specs.Numbers.{numbers};
-ghost use Rattle.devices.specs.Step.{deviceRow};
+ghost use Rattle.devices.specs.Step.{deviceRow, lightRow};
 
 // The device of a row, by its kind, from the old devices and the old settled columns. The row's own bytes are lent.
 pub fn device_step(
@@ -31,4 +31,13 @@ pub fn device_step(
     if kind == kind::COMPARATOR {
         sixteen[0] = comparator::next_comparator(table, signal, weak, strong, row);
     }
+}
+
+// The lamp or bulb of a row, from the new settled power. A row of another kind stays as it is.
+pub fn light_step(table: &[u8], weak: &[u8], strong: &[u8], row: usize, sixteen: &mut [u8])
+    requires { ⌜ length (now sixteen) ≡ 16 ⌝ }
+    ensures { λ _. ⌜ now (sixteen .exit) ≡ lightRow (now (table .entry)) (now (weak .entry)) (now (strong .entry)) row (now (sixteen .entry)) ⌝ }
+{
+    lamp::lamp_step(table, weak, strong, row, sixteen);
+    bulb::bulb_step(table, weak, strong, row, sixteen);
 }

@@ -12,12 +12,12 @@ use lib.Dec.{eqb, leb, ltb}
 use lib.Pow.{pow-pos}
 use borrow.Author.Tests.{eq-eqb, ne-eqb, lt-ltb}
 use Rattle.columns.specs.Column.{Bytes, Column}
-use Rattle.blocks.specs.Kind.{RedstoneTorch, Repeater, Comparator, RedstoneLamp}
+use Rattle.blocks.specs.Kind.{RedstoneTorch, Repeater, Comparator, RedstoneLamp, CopperBulb}
 use Rattle.world.specs.Rows.{kindOf, poweredOf, isPowered}
 use Rattle.emitted.specs.Emitted.{goodDevice}
-use Rattle.states.specs.Row.{delayOf, bitsSet, isCandidate, goodQueue, goodLamp, goodTorch, goodState}
-use Rattle.levels.specs.Numbers.{hasPower}
-use Rattle.fresh.specs.Fresh.{freshDevice, freshQueue, freshLamp, freshRow}
+use Rattle.states.specs.Row.{delayOf, bitsSet, isCandidate, goodQueue, goodLight, goodTorch, goodHadPower, goodState}
+use Rattle.levels.specs.Numbers.{hasPower, number}
+use Rattle.fresh.specs.Fresh.{freshDevice, freshQueue, freshLight, freshHadPower, freshRow}
 use Rattle.states.proofs.Powers.{delay-range}
 use Rattle.states.proofs.Parts.{whole}
 
@@ -44,12 +44,20 @@ filled-queue true m =
 filled-queue false m =
     rw (lt-ltb (0 * (2 ^ suc m - 1)) (2 ^ suc m) (omega (arith, pow-suc 2 m, pow-pos m))) (eq-eqb (0 * (2 ^ suc m - 1) % 2) 0 (omega arith))
 
-lamp-of : (x power : Bool)
-    → cond x (leb (cond (x && power) 1 0) 1 && (leb 0 2 && (eqb (cond (x && power) 1 0) 1 || eqb 0 0))) (eqb (cond (x && power) 1 0) 0 && eqb 0 0) ≡ true
-lamp-of true true = refl
-lamp-of true false = refl
-lamp-of false true = refl
-lamp-of false false = refl
+-- the light of a lamp (x), of a bulb (y) and of neither, with no ticks left
+light-of : (x y power powered : Bool)
+    → let lit = cond x (number power) (cond y (number powered) 0) in
+    cond x (leb lit 1 && (leb 0 2 && (eqb lit 1 || eqb 0 0))) (cond y (leb lit 1 && eqb 0 0) (eqb lit 0 && eqb 0 0)) ≡ true
+light-of true y true powered = refl
+light-of true y false powered = refl
+light-of false true power true = refl
+light-of false true power false = refl
+light-of false false power powered = refl
+
+had-power-of : (y power : Bool) → cond y (leb (number (y && power)) 1) (eqb (number (y && power)) 0) ≡ true
+had-power-of true true = refl
+had-power-of true false = refl
+had-power-of false power = refl
 
 either : (x : Bool) {a b : Bool} → a ≡ true → b ≡ true → cond x a b ≡ true
 either true g h = g
@@ -77,13 +85,14 @@ module _ (t : Bytes) (i : ℕ) where
 
   -- a fresh row is valid
   pub fresh-good : (weak strong : Column) → goodState t i (freshRow t weak strong i) ≡ true
-  unfolding freshRow goodLamp goodTorch freshLamp bitsSet isCandidate
+  unfolding freshRow goodLight goodTorch goodHadPower freshLight freshHadPower bitsSet isCandidate
   fresh-good weak strong =
       whole t i (freshRow t weak strong i)
       (record {
         device = fresh-device;
         queue = fresh-queue weak strong;
-        lamp = lamp-of (eqb (kindOf t i) RedstoneLamp) (hasPower weak strong i);
+        light = light-of (eqb (kindOf t i) RedstoneLamp) (eqb (kindOf t i) CopperBulb) (hasPower weak strong i) (isPowered t i);
         torch = either (eqb (kindOf t i) RedstoneTorch) refl refl;
+        had-power = had-power-of (eqb (kindOf t i) CopperBulb) (hasPower weak strong i);
         rest = refl;
       })

@@ -1,14 +1,14 @@
 -- The fresh state of a row: `RedstoneTickSimulator::new`.
 -- Assumes nothing.
 use mathlib.Core.Bool.{cond, _&&_}
-use mathlib.Core.List.{_∷_}
+use mathlib.Core.List.{_∷_, _++_}
 use Prim.Native.Nat.{ℕ, _*_, _-_, _^_}
 use lib.ListN.{replicate}
 use lib.Dec.{eqb}
 use Rattle.columns.specs.Column.{Bytes, Column}
 use Rattle.columns.specs.Signal.{maxSignal}
-use Rattle.levels.specs.Numbers.{hasPower}
-use Rattle.blocks.specs.Kind.{RedstoneTorch, Repeater, Comparator, RedstoneLamp}
+use Rattle.levels.specs.Numbers.{hasPower, number}
+use Rattle.blocks.specs.Kind.{RedstoneTorch, Repeater, Comparator, RedstoneLamp, CopperBulb}
 use Rattle.world.specs.Rows.{kindOf, poweredOf, isPowered, levelOr}
 use Rattle.states.specs.Row.{delayOf}
 
@@ -24,10 +24,17 @@ freshDevice t i =
 unfoldable pub freshQueue : Bytes → ℕ → ℕ
 freshQueue t i = cond (eqb (kindOf t i) Repeater) (freshDevice t i * (2 ^ delayOf t i - 1)) 0
 
--- "lamps from settled power"
-unfoldable pub freshLamp : Bytes → Column → Column → ℕ → ℕ
-freshLamp t weak strong i = cond (eqb (kindOf t i) RedstoneLamp && hasPower weak strong i) 1 0
+-- "lamps from settled power"; of a bulb "Fresh light comes from powered, missing false"
+unfoldable pub freshLight : Bytes → Column → Column → ℕ → ℕ
+freshLight t weak strong i =
+    cond (eqb (kindOf t i) RedstoneLamp) (number (hasPower weak strong i))
+    (cond (eqb (kindOf t i) CopperBulb) (number (isPowered t i)) 0)
+
+-- of a bulb "fresh byte 9 from settled power"
+unfoldable pub freshHadPower : Bytes → Column → Column → ℕ → ℕ
+freshHadPower t weak strong i = number (eqb (kindOf t i) CopperBulb && hasPower weak strong i)
 
 -- the sixteen bytes of row i
 unfoldable pub freshRow : Bytes → Column → Column → ℕ → Bytes
-freshRow t weak strong i = freshDevice t i ∷ freshQueue t i ∷ freshLamp t weak strong i ∷ replicate 13 0
+freshRow t weak strong i =
+    freshDevice t i ∷ freshQueue t i ∷ freshLight t weak strong i ∷ replicate 6 0 ++ freshHadPower t weak strong i ∷ replicate 6 0

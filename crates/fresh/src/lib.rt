@@ -14,7 +14,7 @@ ghost use mathlib.Core.Bool.{cond};
 ghost use Prim.Native.Nat.{_<_};
 ghost use lib.ListN.{length, replicate};
 ghost use Rattle.columns.specs.Signal.{maxSignal};
-ghost use Rattle.fresh.specs.Fresh.{freshDevice, freshQueue, freshLamp, freshRow};
+ghost use Rattle.fresh.specs.Fresh.{freshDevice, freshQueue, freshLight, freshHadPower, freshRow};
 
 // The level of a comparator that gives none.
 fn missing_level(powered: bool) -> u8
@@ -46,10 +46,22 @@ fn fresh_queue(table: &[u8], row: usize) -> u8
     0
 }
 
-fn fresh_lamp(table: &[u8], weak: &[u8], strong: &[u8], row: usize) -> u8
-    ensures { λ r. ⌜ r ≡ freshLamp (now (table .entry)) (now (weak .entry)) (now (strong .entry)) row ⌝ }
+fn fresh_light(table: &[u8], weak: &[u8], strong: &[u8], row: usize) -> u8
+    ensures { λ r. ⌜ r ≡ freshLight (now (table .entry)) (now (weak .entry)) (now (strong .entry)) row ⌝ }
 {
-    number((kind_of(table, row) == kind::REDSTONE_LAMP) & has_power(weak, strong, row))
+    let kind = kind_of(table, row);
+    match kind {
+        kind::REDSTONE_LAMP => number(has_power(weak, strong, row)),
+        kind::COPPER_BULB => number(is_powered(table, row)),
+        _ => 0,
+    }
+}
+
+// Whether a bulb has power as it is built.
+fn fresh_had_power(table: &[u8], weak: &[u8], strong: &[u8], row: usize) -> u8
+    ensures { λ r. ⌜ r ≡ freshHadPower (now (table .entry)) (now (weak .entry)) (now (strong .entry)) row ⌝ }
+{
+    number((kind_of(table, row) == kind::COPPER_BULB) & has_power(weak, strong, row))
 }
 
 fn clear(sixteen: &mut [u8])
@@ -71,5 +83,6 @@ pub fn fresh_step(table: &[u8], weak: &[u8], strong: &[u8], row: usize, sixteen:
     clear(sixteen);
     sixteen[0] = fresh_device(table, row);
     sixteen[1] = fresh_queue(table, row);
-    sixteen[2] = fresh_lamp(table, weak, strong, row);
+    sixteen[2] = fresh_light(table, weak, strong, row);
+    sixteen[9] = fresh_had_power(table, weak, strong, row);
 }

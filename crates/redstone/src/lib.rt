@@ -69,7 +69,7 @@ pub extern "C" fn redstone_switch(
     weak: &mut [u8],
     strong: &mut [u8],
 ) -> u32
-    ensures { λ r. ⌜ Switches (now (profile .entry)) (now (table .entry)) (now (table .exit)) (now (state .entry)) (cell x y z) powered (now (signal .entry)) (now (weak .entry)) (now (strong .entry)) (now (signal .exit)) (now (weak .exit)) (now (strong .exit)) r ⌝ }
+    ensures { λ r. ⌜ Switches (now (profile .entry)) (now (table .entry)) (now (table .exit)) (now (state .entry)) (now (state .exit)) (cell x y z) powered (now (signal .entry)) (now (weak .entry)) (now (strong .entry)) (now (signal .exit)) (now (weak .exit)) (now (strong .exit)) r ⌝ }
 {
     sim::switch(
         profile,

@@ -14,7 +14,7 @@ use Rattle.rounds.specs.declared.Outcome.{Outcome}
 use Rattle.rounds.specs.Outcome.{settledIn, outcomeOf, Solves}
 use Rattle.levels.specs.Numbers.{numbers}
 use Rattle.updates.specs.State.{devicesOf, IsValidState}
-use Rattle.updates.specs.Tick.{withDevices, withLamps, settledOf, setDevices, setLamps, tick, ticks}
+use Rattle.updates.specs.Tick.{withDevices, withLights, settledOf, setDevices, setLights, tick, ticks}
 use Rattle.running.specs.Running.{ColumnLengths, Ready, HoldsSettled, Settled}
 use Rattle.running.proofs.Many.{ticks-none, ticks-next}
 use Rattle.running.proofs.States.{length-ticks, tick-devices}
@@ -73,10 +73,10 @@ module _ {p t st : Bytes} {d signal weak strong : Column} (h : Settled p t st d 
   unfolding setDevices settledOf
   next-devices = rw (h .devices, h .holds .signals, h .holds .weaks, h .holds .strongs)
 
-  -- the lamps, from the new ones
-  pub next-lamps : withLamps t weak strong st ≡ setLamps p t st
-  unfolding setLamps settledOf
-  next-lamps = rw (h .holds .weaks, h .holds .strongs)
+  -- the lamps and bulbs, from the new ones
+  pub next-lights : withLights t weak strong st ≡ setLights p t st
+  unfolding setLights settledOf
+  next-lights = rw (h .holds .weaks, h .holds .strongs)
 
 -- what a tick leaves: the state, the rounds and the columns
 pub record Ticked (p t st st′ : Bytes) (d signal weak strong : Column) (r : ℕ) : Type 0 where
@@ -84,13 +84,13 @@ pub record Ticked (p t st st′ : Bytes) (d signal weak strong : Column) (r : �
   pub rounds : r ≡ roundsOf p t (devicesOf t st′)
   pub columns : Settled p t st′ d signal weak strong
 
--- st becomes st₁ by its devices, settled, and then st₂ by its lamps
+-- st becomes st₁ by its devices, settled, and then st₂ by its lamps and bulbs
 module _ {p t st st₁ st₂ : Bytes} {d signal weak strong : Column} {r : ℕ} where
   pub ticked : IsValidState t st → st₁ ≡ setDevices p t st → Settled p t st₁ d signal weak strong → r ≡ roundsOf p t (devicesOf t st₁)
-      → st₂ ≡ withLamps t weak strong st₁ → Ticked p t st st₂ d signal weak strong r
+      → st₂ ≡ withLights t weak strong st₁ → Ticked p t st st₂ d signal weak strong r
   unfolding tick
   ticked v e s k f =
-      let next : st₂ ≡ tick p t st = f ∙ next-lamps s ∙ ap (setLamps p t) e in
+      let next : st₂ ≡ tick p t st = f ∙ next-lights s ∙ ap (setLights p t) e in
       let same : devicesOf t st₂ ≡ devicesOf t st₁ =
       ap (devicesOf t) next ∙ tick-devices p t st (valid-state t st v .sized) ∙ ap (devicesOf t) (sym e) in
       record {

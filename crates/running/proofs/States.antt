@@ -1,4 +1,4 @@
--- Laws of the rows of a state: what a tick makes of each, that the lamps leave the devices alone, and that a candidate stays one.
+-- Laws of the rows of a state: what a tick makes of each, that lamps and bulbs leave the devices alone, and that a candidate stays one.
 -- Assumes nothing.
 use mathlib.Core.Path.{_≡_, ap, _∙_}
 use Prim.Native.Nat.{ℕ, zero, suc, _*_, _≤_, _<_}
@@ -12,11 +12,10 @@ use Rattle.network.specs.Network.{State}
 use Rattle.world.specs.Rows.{rows}
 use Rattle.levels.specs.Numbers.{Numbers}
 use Rattle.states.specs.Row.{deviceOf, candidateOf}
-use Rattle.lamp.specs.Step.{lampRow}
-use Rattle.devices.specs.Step.{deviceRow}
-use Rattle.steps.proofs.Rows.{length-device, length-lamp, lamp-device, lamp-candidate, device-candidate}
+use Rattle.devices.specs.Step.{deviceRow, lightRow}
+use Rattle.steps.proofs.Rows.{length-device, length-light, light-device, light-candidate, device-candidate}
 use Rattle.updates.specs.State.{sixteen, devicesOf}
-use Rattle.updates.specs.Tick.{withDevices, withLamps, numbersOf, settledOf, setDevices, setLamps, tick, ticks}
+use Rattle.updates.specs.Tick.{withDevices, withLights, numbersOf, settledOf, setDevices, setLights, tick, ticks}
 
 -- ---- the rows of a tick
 
@@ -35,25 +34,25 @@ module _ (t st : Bytes) (long : length st ≡ rows t * 16) where
     unfolding withDevices
     length-devices = length-concatRows 16 _ (rows t) (λ i h. length-device p t _ s i (sixteen st i) ∙ row-length i h)
 
-  -- and of one whose lamps are
+  -- and of one whose lamps and bulbs are
   module _ (weak strong : Column) where
-    lamp-lengths : (i : ℕ) → i < rows t → length (lampRow t weak strong i (sixteen st i)) ≡ 16
-    lamp-lengths i h = length-lamp t weak strong i (sixteen st i) ∙ row-length i h
+    light-lengths : (i : ℕ) → i < rows t → length (lightRow t weak strong i (sixteen st i)) ≡ 16
+    light-lengths i h = length-light t weak strong i (sixteen st i) ∙ row-length i h
 
-    pub lamps-row : (i : ℕ) → i < rows t → sixteen (withLamps t weak strong st) i ≡ lampRow t weak strong i (sixteen st i)
-    unfolding withLamps
-    lamps-row = part-concatRows 16 _ (rows t) lamp-lengths
+    pub lights-row : (i : ℕ) → i < rows t → sixteen (withLights t weak strong st) i ≡ lightRow t weak strong i (sixteen st i)
+    unfolding withLights
+    lights-row = part-concatRows 16 _ (rows t) light-lengths
 
-    pub length-lamps : length (withLamps t weak strong st) ≡ rows t * 16
-    unfolding withLamps
-    length-lamps = length-concatRows 16 _ (rows t) lamp-lengths
+    pub length-lights : length (withLights t weak strong st) ≡ rows t * 16
+    unfolding withLights
+    length-lights = length-concatRows 16 _ (rows t) light-lengths
 
-    -- the lamps leave the devices alone
-    pub lamps-devices : devicesOf t (withLamps t weak strong st) ≡ devicesOf t st
+    -- they leave the devices alone
+    pub lights-devices : devicesOf t (withLights t weak strong st) ≡ devicesOf t st
     unfolding devicesOf
-    lamps-devices =
-        same-rule (rows t) (λ i. deviceOf (sixteen (withLamps t weak strong st) i)) (λ i. deviceOf (sixteen st i))
-        (λ i h. ap deviceOf (lamps-row i h) ∙ lamp-device t weak strong i (sixteen st i))
+    lights-devices =
+        same-rule (rows t) (λ i. deviceOf (sixteen (withLights t weak strong st) i)) (λ i. deviceOf (sixteen st i))
+        (λ i h. ap deviceOf (lights-row i h) ∙ light-device t weak strong i (sixteen st i))
 
 -- ---- a tick
 
@@ -67,13 +66,13 @@ module _ (p t st : Bytes) (long : length st ≡ rows t * 16) where
   length-set-devices = length-devices t st long p (devicesOf t st) (numbersOf (settledOf p t st))
 
   pub length-tick : length (tick p t st) ≡ rows t * 16
-  unfolding tick setLamps
-  length-tick = length-lamps t (setDevices p t st) length-set-devices (next p t st .weak) (next p t st .strong)
+  unfolding tick setLights
+  length-tick = length-lights t (setDevices p t st) length-set-devices (next p t st .weak) (next p t st .strong)
 
   -- after a tick the devices are those that were settled with
   pub tick-devices : devicesOf t (tick p t st) ≡ devicesOf t (setDevices p t st)
-  unfolding tick setLamps
-  tick-devices = lamps-devices t (setDevices p t st) length-set-devices (next p t st .weak) (next p t st .strong)
+  unfolding tick setLights
+  tick-devices = lights-devices t (setDevices p t st) length-set-devices (next p t st .weak) (next p t st .strong)
 
   module _ (i : ℕ) (h : i < rows t) where
     -- row i once the devices are set, and after the tick
@@ -81,14 +80,14 @@ module _ (p t st : Bytes) (long : length st ≡ rows t * 16) where
     unfolding setDevices
     device-row = devices-row t st long p (devicesOf t st) (numbersOf (settledOf p t st)) i h
 
-    pub tick-row : sixteen (tick p t st) i ≡ lampRow t (next p t st .weak) (next p t st .strong) i (sixteen (setDevices p t st) i)
-    unfolding tick setLamps
-    tick-row = lamps-row t (setDevices p t st) length-set-devices (next p t st .weak) (next p t st .strong) i h
+    pub tick-row : sixteen (tick p t st) i ≡ lightRow t (next p t st .weak) (next p t st .strong) i (sixteen (setDevices p t st) i)
+    unfolding tick setLights
+    tick-row = lights-row t (setDevices p t st) length-set-devices (next p t st .weak) (next p t st .strong) i h
 
     -- the candidate byte of a row never falls
     pub candidate-stays : candidateOf (sixteen st i) ≤ candidateOf (sixteen (tick p t st) i)
     candidate-stays =
-        rw (tick-row, lamp-candidate t (next p t st .weak) (next p t st .strong) i (sixteen (setDevices p t st) i), device-row)
+        rw (tick-row, light-candidate t (next p t st .weak) (next p t st .strong) i (sixteen (setDevices p t st) i), device-row)
         (device-candidate p t (devicesOf t st) (numbersOf (settledOf p t st)) i (sixteen st i) (omega (arith, row-length t st long i h)))
 
 module _ (p t : Bytes) where

@@ -18,7 +18,7 @@ use Rattle.states.specs.Row.{deviceOf, goodState}
 use Rattle.fresh.specs.Fresh.{freshDevice, freshRow}
 use Rattle.states.proofs.Parts.{parts, whole}
 use Rattle.fresh.proofs.FreshRows.{length-fresh, fresh-device, fresh-good}
-use Rattle.steps.proofs.Valid.{device-good, lamp-good}
+use Rattle.steps.proofs.Valid.{device-good, light-good}
 use Rattle.updates.specs.State.{sixteen, devicesOf, isBadState, checkState, IsValidState, freshDevices, freshState}
 use Rattle.updates.specs.Tick.{numbersOf, settledOf, setDevices, tick, ticks}
 use Rattle.running.proofs.States.{row-length, length-set-devices, length-tick, next, device-row, tick-row}
@@ -81,7 +81,7 @@ module _ (p t st : Bytes) (h : IsValidState t st) where
   half : Stated t (setDevices p t st)
   half = valid-state t (setDevices p t st) (set-devices-valid p t st h)
 
-  -- and once its lamps are
+  -- and once its lamps and bulbs are
   pub tick-valid : IsValidState t (tick p t st)
   tick-valid =
       let long = valid-state t st h .sized in
@@ -91,7 +91,7 @@ module _ (p t st : Bytes) (h : IsValidState t st) where
         good = λ i l.
             let r = sixteen (setDevices p t st) i in
             rw (tick-row p t st long i l)
-            (whole t i _ (lamp-good t (next p t st .weak) (next p t st .strong) i r (row-length t (setDevices p t st) (half .sized) i l) (parts t i r (half .good i l))));
+            (whole t i _ (light-good t (next p t st .weak) (next p t st .strong) i r (row-length t (setDevices p t st) (half .sized) i l) (parts t i r (half .good i l))));
       })
 
 pub ticks-valid : (n : ℕ) (p t st : Bytes) → IsValidState t st → IsValidState t (ticks n p t st)

@@ -5,7 +5,7 @@ use updates::state::fill_devices;
 use updates::state::fill_fresh;
 use updates::state::fill_fresh_devices;
 use updates::state::set_devices;
-use updates::state::set_lamps;
+use updates::state::set_lights;
 ghost use mathlib.Core.Path.{_≡_};
 ghost use Prim.Native.Nat.{_*_};
 ghost use lib.ListN.{length};
@@ -55,7 +55,7 @@ pub fn settle_state(
     settle(profile, table, devices, signal, weak, strong)
 }
 
-// One tick, from a state that is settled to the next: devices from the old devices and columns, then the columns, then lamps from these.
+// One tick, from a state that is settled to the next: devices from the old devices and columns, then the columns, then lamps and bulbs from these.
 fn advance_tick(
     profile: &[u8],
     table: &[u8],
@@ -73,7 +73,7 @@ fn advance_tick(
 {
     set_devices(profile, table, devices, signal, weak, strong, state);
     let rounds = settle_state(profile, table, state, devices, signal, weak, strong);
-    set_lamps(table, weak, strong, state);
+    set_lights(table, weak, strong, state);
     rounds
 }
 

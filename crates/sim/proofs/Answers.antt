@@ -48,10 +48,10 @@ module _ {p t st : Bytes} {now asked : ℕ} {signal weak strong : Column} {r n i
 module _ {p t u st : Bytes} {q : Pos} {power : ℕ} {signal weak strong signal′ weak′ strong′ : Column} {r : ℕ} where
   pub switch-done : checkStep p t st (length signal) (length weak) (length strong) ≡ Accepted → u ≡ switched t q power
       → r ≡ roundsOf p (switched t q power) (devicesOf t st) → HoldsSettled p (switched t q power) (devicesOf t st) signal′ weak′ strong′
-      → Switches p t u st q power signal weak strong signal′ weak′ strong′ r
-  switch-done e f k s = record { answer = rw e k; table = rw e f; columns = filled e s }
+      → Switches p t u st st q power signal weak strong signal′ weak′ strong′ r
+  switch-done e f k s = record { answer = rw e k; table = rw e f; state = refl; columns = filled e s }
 
 module _ {p t st : Bytes} {q : Pos} {power : ℕ} {signal weak strong : Column} {r n i : ℕ} {x : Checked} where
   pub switch-refused : x ≡ checkStep p t st (length signal) (length weak) (length strong) → x ≡ Refused n i → r ≡ answerOf x 0
-      → Switches p t t st q power signal weak strong signal weak strong r
-  switch-refused is told a = let e = sym is ∙ told in record { answer = rw e (rw told at a); table = rw e; columns = kept e }
+      → Switches p t t st st q power signal weak strong signal weak strong r
+  switch-refused is told a = let e = sym is ∙ told in record { answer = rw e (rw told at a); table = rw e; state = refl; columns = kept e }

@@ -6,7 +6,7 @@ use lib.ListN.{getD}
 use lib.Dec.{eqb, leb, ltb}
 use Rattle.columns.specs.Column.{Bytes}
 use Rattle.columns.specs.First.{allBelow}
-use Rattle.blocks.specs.Kind.{RedstoneTorch, Repeater, RedstoneLamp}
+use Rattle.blocks.specs.Kind.{RedstoneTorch, Repeater, RedstoneLamp, CopperBulb}
 use Rattle.world.specs.Rows.{kindOf, delayOr}
 use Rattle.emitted.specs.Emitted.{goodDevice}
 
@@ -20,7 +20,7 @@ deviceOf r = getD r 0 0
 abbrev pub queueOf : Bytes → ℕ
 queueOf r = getD r 1 0
 
--- 2: "lamp lit 0/1"
+-- 2: "lamp lit 0/1"; of a bulb, "its light"
 abbrev pub litOf : Bytes → ℕ
 litOf r = getD r 2 0
 
@@ -35,6 +35,10 @@ togglesOf r = getD r 4 0 + getD r 5 0 * 256 + getD r 6 0 * 65536 + getD r 7 0 * 
 -- 8: "candidate 0/1"
 abbrev pub candidateOf : Bytes → ℕ
 candidateOf r = getD r 8 0
+
+-- 9: of a bulb, "whether it had power after the last tick"
+abbrev pub hadPowerOf : Bytes → ℕ
+hadPowerOf r = getD r 9 0
 
 -- ---- what the fields are held against
 
@@ -55,7 +59,7 @@ isCandidate toggles = leb 8 (bitsSet 31 toggles)
 
 -- "the rest 0"
 abbrev pub goodRest : Bytes → Bool
-goodRest r = allBelow (λ k. eqb (getD r (9 + k) 0) 0) 7
+goodRest r = allBelow (λ k. eqb (getD r (10 + k) 0) 0) 6
 
 module _ (t : Bytes) (i : ℕ) (r : Bytes) where
   -- "one bit per tick of delay, bit 0 equal to byte 0"; "Bytes of another kind's device are 0"
@@ -65,12 +69,12 @@ module _ (t : Bytes) (i : ℕ) (r : Bytes) where
       (ltb (queueOf r) (2 ^ delayOf t i) && eqb (queueOf r % 2) (deviceOf r))
       (eqb (queueOf r) 0)
 
-  -- "lamp lit 0/1"; "ticks left .., 0-2, 0 if unlit"
-  unfoldable pub goodLamp : Bool
-  goodLamp =
+  -- "lamp lit 0/1"; "ticks left .., 0-2, 0 if unlit"; a bulb's light "0 or 1"
+  unfoldable pub goodLight : Bool
+  goodLight =
       cond (eqb (kindOf t i) RedstoneLamp)
       (leb (litOf r) 1 && (leb (leftOf r) 2 && (eqb (litOf r) 1 || eqb (leftOf r) 0)))
-      (eqb (litOf r) 0 && eqb (leftOf r) 0)
+      (cond (eqb (kindOf t i) CopperBulb) (leb (litOf r) 1 && eqb (leftOf r) 0) (eqb (litOf r) 0 && eqb (leftOf r) 0))
 
   -- "j from 0 to 30"; "candidate 0/1, 1 where eight or more toggle bits are set"
   unfoldable pub goodTorch : Bool
@@ -79,6 +83,11 @@ module _ (t : Bytes) (i : ℕ) (r : Bytes) where
       (ltb (togglesOf r) (2 ^ 31) && (leb (candidateOf r) 1 && (eqb (candidateOf r) 1 || not (isCandidate (togglesOf r)))))
       (eqb (togglesOf r) 0 && eqb (candidateOf r) 0)
 
+  -- "both 0 or 1 and byte 9 zero for other kinds"
+  unfoldable pub goodHadPower : Bool
+  goodHadPower = cond (eqb (kindOf t i) CopperBulb) (leb (hadPowerOf r) 1) (eqb (hadPowerOf r) 0)
+
   -- the sixteen bytes r of row i are within the layout
   unfoldable pub goodState : Bool
-  goodState = goodDevice (kindOf t i) (deviceOf r) && (goodQueue && (goodLamp && (goodTorch && goodRest r)))
+  goodState =
+      goodDevice (kindOf t i) (deviceOf r) && (goodQueue && (goodLight && (goodTorch && (goodHadPower && goodRest r))))

@@ -7,7 +7,7 @@ use emitted::device::good_device;
 use world::row::kind_of;
 ghost use mathlib.Core.Path.{_≡_};
 ghost use Prim.Native.Nat.{_<_};
-ghost use Rattle.states.specs.Row.{togglesOf, delayOf, goodQueue, goodLamp, goodTorch, goodRest, goodState};
+ghost use Rattle.states.specs.Row.{togglesOf, delayOf, goodQueue, goodLight, goodTorch, goodHadPower, goodRest, goodState};
 
 // A byte as a word.
 fn wide(b: u8) -> u32
@@ -51,13 +51,17 @@ fn good_queue(table: &[u8], row: usize, sixteen: &[u8]) -> bool
     queue == 0
 }
 
-fn good_lamp(table: &[u8], row: usize, sixteen: &[u8]) -> bool
-    ensures { λ r. ⌜ r ≡ goodLamp (now (table .entry)) row (now (sixteen .entry)) ⌝ }
+fn good_light(table: &[u8], row: usize, sixteen: &[u8]) -> bool
+    ensures { λ r. ⌜ r ≡ goodLight (now (table .entry)) row (now (sixteen .entry)) ⌝ }
 {
+    let kind = kind_of(table, row);
     let lit = byte_at(sixteen, 2);
     let left = byte_at(sixteen, 3);
-    if kind_of(table, row) == kind::REDSTONE_LAMP {
+    if kind == kind::REDSTONE_LAMP {
         return (lit <= 1) & ((left <= 2) & ((lit == 1) | (left == 0)));
+    }
+    if kind == kind::COPPER_BULB {
+        return (lit <= 1) & (left == 0);
     }
     (lit == 0) & (left == 0)
 }
@@ -74,13 +78,23 @@ fn good_torch(table: &[u8], row: usize, sixteen: &[u8]) -> bool
     (toggles == 0) & (candidate == 0)
 }
 
-// Whether bytes 9 to 15 are 0.
+fn good_had_power(table: &[u8], row: usize, sixteen: &[u8]) -> bool
+    ensures { λ r. ⌜ r ≡ goodHadPower (now (table .entry)) row (now (sixteen .entry)) ⌝ }
+{
+    let had_power = byte_at(sixteen, 9);
+    if kind_of(table, row) == kind::COPPER_BULB {
+        return had_power <= 1;
+    }
+    had_power == 0
+}
+
+// Whether bytes 10 to 15 are 0.
 fn good_rest(sixteen: &[u8]) -> bool
     ensures { λ r. ⌜ r ≡ goodRest (now (sixteen .entry)) ⌝ }
 {
     let mut k = 0;
-    while k < 7 {
-        if byte_at(sixteen, 9 + k) != 0 {
+    while k < 6 {
+        if byte_at(sixteen, 10 + k) != 0 {
             return false;
         }
         k += 1;
@@ -94,6 +108,7 @@ pub fn good_state(table: &[u8], row: usize, sixteen: &[u8]) -> bool
 {
     good_device(kind_of(table, row), byte_at(sixteen, 0))
         & (good_queue(table, row, sixteen)
-            & (good_lamp(table, row, sixteen)
-                & (good_torch(table, row, sixteen) & good_rest(sixteen))))
+            & (good_light(table, row, sixteen)
+                & (good_torch(table, row, sixteen)
+                    & (good_had_power(table, row, sixteen) & good_rest(sixteen)))))
 }

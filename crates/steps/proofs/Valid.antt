@@ -1,8 +1,8 @@
--- Laws of valid rows: a device's step and a lamp's step keep a valid row valid.
+-- Laws of valid rows: a device's step and a lamp's or bulb's keep a valid row valid.
 -- Assumes nothing.
-use mathlib.Core.Path.{_≡_, refl, sym, subst}
+use mathlib.Core.Path.{_≡_, refl, sym, subst, _∙_}
 use mathlib.Core.Logic.{by-cases}
-use mathlib.Core.Bool.{Bool, true, false, not, _&&_, _||_, false≢true}
+use mathlib.Core.Bool.{Bool, true, false, cond, not, _&&_, _||_, false≢true}
 use mathlib.Core.List.{_∷_}
 use Prim.Native.Nat.{ℕ, zero, suc, _+_, _*_, _-_, _/_, _%_, _^_, _≤_, _<_, max}
 use native.Mathlib.Nat.{pow-suc}
@@ -14,23 +14,25 @@ use borrow.Author.Tests.{eq-eqb, ne-eqb, leb-true, le-leb, ltb-true, lt-ltb}
 use Rattle.columns.specs.Column.{Bytes, Column, row, tabulateFrom}
 use Rattle.columns.proofs.Columns.{is-tabulate}
 use Rattle.columns.proofs.Truth.{and-true}
-use Rattle.blocks.specs.Kind.{RedstoneTorch, Repeater, Comparator, RedstoneLamp}
+use Rattle.blocks.specs.Kind.{RedstoneTorch, Repeater, Comparator, RedstoneLamp, CopperBulb}
 use Rattle.world.specs.Rows.{kindOf}
 use Rattle.emitted.specs.Emitted.{goodDevice}
 use Rattle.levels.specs.Numbers.{Numbers, hasPower, number}
-use Rattle.states.specs.Row.{delayOf, isCandidate, goodQueue, goodLamp, goodTorch}
+use Rattle.states.specs.Row.{delayOf, isCandidate, goodQueue, goodLight, goodTorch, goodHadPower}
 use Rattle.repeater.specs.Step.{isRequested, isLocked, nextQueue, repeaterRow}
 use Rattle.torch.specs.Step.{torchSupportIsPowered, nextTorch, nextToggles, nextCandidate, torchRow}
 use Rattle.comparator.specs.Step.{nextComparator}
 use Rattle.lamp.specs.Step.{nextLit, nextLeft, lampRow}
-use Rattle.devices.specs.Step.{deviceRow}
+use Rattle.bulb.specs.Step.{flipped, nextLight, bulbRow}
+use Rattle.devices.specs.Step.{deviceRow, lightRow}
 use Rattle.states.proofs.Powers.{delay-range}
 use Rattle.states.proofs.Parts.{Parts}
+use Rattle.steps.proofs.Rows.{length-lamp}
 
 -- what holds of every row that is written out byte by byte holds of every row
-every-row : (P : Bytes → Type 0) → ((a b c d e f g h k : ℕ) (rest : Bytes) → P (a ∷ b ∷ c ∷ d ∷ e ∷ f ∷ g ∷ h ∷ k ∷ rest)) → (r : Bytes) → length r ≡ 16 → P r
+every-row : (P : Bytes → Type 0) → ((a b c d e f g h k l : ℕ) (rest : Bytes) → P (a ∷ b ∷ c ∷ d ∷ e ∷ f ∷ g ∷ h ∷ k ∷ l ∷ rest)) → (r : Bytes) → length r ≡ 16 → P r
 unfolding tabulateFrom
-every-row P all r h = subst P (sym (is-tabulate r 16 (row r) h (λ i l. refl))) (all _ _ _ _ _ _ _ _ _ _)
+every-row P all r h = subst P (sym (is-tabulate r 16 (row r) h (λ i l. refl))) (all _ _ _ _ _ _ _ _ _ _ _)
 
 -- ---- lamps
 
@@ -47,34 +49,73 @@ lamp-step false (suc zero) (suc (suc (suc left))) g h u = absurd (omega arith)
 lamp-step false (suc (suc lit)) left g h u = absurd (omega arith)
 
 module _ (t : Bytes) (weak strong : Column) (i : ℕ) where
-  lamp-on : kindOf t i ≡ RedstoneLamp → (a b c d e f g h k : ℕ) (rest : Bytes)
-      → Parts t i (a ∷ b ∷ c ∷ d ∷ e ∷ f ∷ g ∷ h ∷ k ∷ rest) → Parts t i (lampRow t weak strong i (a ∷ b ∷ c ∷ d ∷ e ∷ f ∷ g ∷ h ∷ k ∷ rest))
-  unfolding goodQueue goodLamp goodTorch lampRow
-  lamp-on kind a b c d e f g h k rest p =
-      let old : (leb c 1 && (leb d 2 && (eqb c 1 || eqb d 0))) ≡ true = rw kind at (p .lamp) in
+  lamp-on : kindOf t i ≡ RedstoneLamp → (a b c d e f g h k l : ℕ) (rest : Bytes)
+      → Parts t i (a ∷ b ∷ c ∷ d ∷ e ∷ f ∷ g ∷ h ∷ k ∷ l ∷ rest) → Parts t i (lampRow t weak strong i (a ∷ b ∷ c ∷ d ∷ e ∷ f ∷ g ∷ h ∷ k ∷ l ∷ rest))
+  unfolding goodQueue goodLight goodTorch goodHadPower lampRow
+  lamp-on kind a b c d e f g h k l rest p =
+      let old : (leb c 1 && (leb d 2 && (eqb c 1 || eqb d 0))) ≡ true = rw kind at (p .light) in
       let (low, others) = and-true (leb c 1) _ old in
       let (few, unlit) = and-true (leb d 2) _ others in
       record {
         device = rw kind (rw kind at (p .device));
         queue = rw kind (rw kind at (p .queue));
-        lamp = rw kind (lamp-step (hasPower weak strong i) c d (leb-true _ _ low) (leb-true _ _ few) unlit);
+        light = rw kind (lamp-step (hasPower weak strong i) c d (leb-true _ _ low) (leb-true _ _ few) unlit);
         torch = rw kind (rw kind at (p .torch));
+        had-power = rw kind (rw kind at (p .had-power));
         rest = rw kind (p .rest);
       }
 
   -- a lamp's step keeps a valid row valid
-  pub lamp-good : (r : Bytes) → length r ≡ 16 → Parts t i r → Parts t i (lampRow t weak strong i r)
+  lamp-good : (r : Bytes) → length r ≡ 16 → Parts t i r → Parts t i (lampRow t weak strong i r)
   unfolding lampRow
   lamp-good r h p =
       by-cases (ℕ-discrete (kindOf t i) RedstoneLamp)
       (λ kind. every-row (λ r. Parts t i r → Parts t i (lampRow t weak strong i r)) (lamp-on kind) r h p)
       (λ n. rw (ne-eqb (kindOf t i) RedstoneLamp n) p)
 
--- ---- devices
+-- ---- bulbs
 
 number-small : (b : Bool) → leb (number b) 1 ≡ true
 number-small true = refl
 number-small false = refl
+
+-- a light stays 0 or 1
+light-step : (flips : Bool) (light : ℕ) → leb light 1 ≡ true → (leb (cond flips (flipped light) light) 1 && true) ≡ true
+light-step true light h = rw (number-small (eqb light 0))
+light-step false light h = rw h
+
+module _ (t : Bytes) (weak strong : Column) (i : ℕ) where
+  bulb-on : kindOf t i ≡ CopperBulb → (a b c d e f g h k l : ℕ) (rest : Bytes)
+      → Parts t i (a ∷ b ∷ c ∷ d ∷ e ∷ f ∷ g ∷ h ∷ k ∷ l ∷ rest) → Parts t i (bulbRow t weak strong i (a ∷ b ∷ c ∷ d ∷ e ∷ f ∷ g ∷ h ∷ k ∷ l ∷ rest))
+  unfolding goodQueue goodLight goodTorch goodHadPower bulbRow nextLight
+  bulb-on kind a b c d e f g h k l rest p =
+      let power = hasPower weak strong i in
+      let old : (leb c 1 && eqb d 0) ≡ true = rw kind at (p .light) in
+      let (low, none) = and-true (leb c 1) _ old in
+      record {
+        device = rw kind (rw kind at (p .device));
+        queue = rw kind (rw kind at (p .queue));
+        light = rw (kind, none) (light-step (power && eqb l 0) c low);
+        torch = rw kind (rw kind at (p .torch));
+        had-power = rw kind (number-small power);
+        rest = rw kind (p .rest);
+      }
+
+  -- a bulb's step keeps a valid row valid
+  bulb-good : (r : Bytes) → length r ≡ 16 → Parts t i r → Parts t i (bulbRow t weak strong i r)
+  unfolding bulbRow
+  bulb-good r h p =
+      by-cases (ℕ-discrete (kindOf t i) CopperBulb)
+      (λ kind. every-row (λ r. Parts t i r → Parts t i (bulbRow t weak strong i r)) (bulb-on kind) r h p)
+      (λ n. rw (ne-eqb (kindOf t i) CopperBulb n) p)
+
+-- a lamp's step and then a bulb's keep a valid row valid
+pub light-good : (t : Bytes) (weak strong : Column) (i : ℕ) (r : Bytes) → length r ≡ 16 → Parts t i r → Parts t i (lightRow t weak strong i r)
+unfolding lightRow
+light-good t weak strong i r h p =
+    bulb-good t weak strong i (lampRow t weak strong i r) (length-lamp t weak strong i r ∙ h) (lamp-good t weak strong i r h p)
+
+-- ---- devices
 
 -- the four bytes of a word make it up again
 word-again : (n : ℕ) → n < 2147483648 → n % 256 + n / 256 % 256 * 256 + n / 65536 % 256 * 65536 + n / 16777216 % 256 * 16777216 ≡ n
@@ -112,10 +153,10 @@ queue-step q delay b l h =
     rw (lt-ltb _ (2 ^ delay) (rw e at low)) (eq-eqb (nextQueue q delay b % 2) _ refl)
 
 module _ (p t : Bytes) (d : Column) (s : Numbers) (i : ℕ) where
-  torch-on : kindOf t i ≡ RedstoneTorch → (a b c e f g h j k : ℕ) (rest : Bytes)
-      → Parts t i (a ∷ b ∷ c ∷ e ∷ f ∷ g ∷ h ∷ j ∷ k ∷ rest) → Parts t i (torchRow p t (s .weak) (s .strong) i (a ∷ b ∷ c ∷ e ∷ f ∷ g ∷ h ∷ j ∷ k ∷ rest))
-  unfolding goodDevice goodQueue goodLamp goodTorch torchRow
-  torch-on kind a b c e f g h j k rest v =
+  torch-on : kindOf t i ≡ RedstoneTorch → (a b c e f g h j k l : ℕ) (rest : Bytes)
+      → Parts t i (a ∷ b ∷ c ∷ e ∷ f ∷ g ∷ h ∷ j ∷ k ∷ l ∷ rest) → Parts t i (torchRow p t (s .weak) (s .strong) i (a ∷ b ∷ c ∷ e ∷ f ∷ g ∷ h ∷ j ∷ k ∷ l ∷ rest))
+  unfolding goodDevice goodQueue goodLight goodTorch goodHadPower torchRow
+  torch-on kind a b c e f g h j k l rest v =
       let old = f + g * 256 + h * 65536 + j * 16777216 in
       let w = nextToggles old (not (eqb (nextTorch p t (s .weak) (s .strong) i) a)) in
       let small = toggles-small old (not (eqb (nextTorch p t (s .weak) (s .strong) i) a)) in
@@ -124,34 +165,37 @@ module _ (p t : Bytes) (d : Column) (s : Numbers) (i : ℕ) where
       record {
         device = rw kind (number-small (not (torchSupportIsPowered p t (s .weak) (s .strong) i)));
         queue = rw kind (rw kind at (v .queue));
-        lamp = rw kind (rw kind at (v .lamp));
+        light = rw kind (rw kind at (v .light));
         torch = rw (kind, word-again w small) (torch-step w k small (leb-true _ _ low));
+        had-power = rw kind (rw kind at (v .had-power));
         rest = v .rest;
       }
 
-  repeater-on : kindOf t i ≡ Repeater → isLocked t d i ≡ false → (a b c e f g h j k : ℕ) (rest : Bytes)
-      → Parts t i (a ∷ b ∷ c ∷ e ∷ f ∷ g ∷ h ∷ j ∷ k ∷ rest) → Parts t i (repeaterRow p t d s i (a ∷ b ∷ c ∷ e ∷ f ∷ g ∷ h ∷ j ∷ k ∷ rest))
-  unfolding goodDevice goodQueue goodLamp goodTorch repeaterRow
-  repeater-on kind free a b c e f g h j k rest v =
+  repeater-on : kindOf t i ≡ Repeater → isLocked t d i ≡ false → (a b c e f g h j k l : ℕ) (rest : Bytes)
+      → Parts t i (a ∷ b ∷ c ∷ e ∷ f ∷ g ∷ h ∷ j ∷ k ∷ l ∷ rest) → Parts t i (repeaterRow p t d s i (a ∷ b ∷ c ∷ e ∷ f ∷ g ∷ h ∷ j ∷ k ∷ l ∷ rest))
+  unfolding goodDevice goodQueue goodLight goodTorch goodHadPower repeaterRow
+  repeater-on kind free a b c e f g h j k l rest v =
       let q = nextQueue b (delayOf t i) (isRequested p t s i) in
       let (low, _) = and-true (ltb b (2 ^ delayOf t i)) _ (rw kind at (v .queue)) in
       record {
         device = rw (free, kind) (le-leb (q % 2) 1 (omega arith));
         queue = rw (free, kind) (queue-step b (delayOf t i) (isRequested p t s i) (delay-range t i .0) low);
-        lamp = rw (free, kind) (rw kind at (v .lamp));
+        light = rw (free, kind) (rw kind at (v .light));
         torch = rw (free, kind) (rw kind at (v .torch));
+        had-power = rw (free, kind) (rw kind at (v .had-power));
         rest = rw free (v .rest);
       }
 
-  comparator-on : kindOf t i ≡ Comparator → (n a b c e f g h j k : ℕ) (rest : Bytes)
-      → Parts t i (a ∷ b ∷ c ∷ e ∷ f ∷ g ∷ h ∷ j ∷ k ∷ rest) → Parts t i (n ∷ b ∷ c ∷ e ∷ f ∷ g ∷ h ∷ j ∷ k ∷ rest)
-  unfolding goodDevice goodQueue goodLamp goodTorch
-  comparator-on kind n a b c e f g h j k rest v =
+  comparator-on : kindOf t i ≡ Comparator → (n a b c e f g h j k l : ℕ) (rest : Bytes)
+      → Parts t i (a ∷ b ∷ c ∷ e ∷ f ∷ g ∷ h ∷ j ∷ k ∷ l ∷ rest) → Parts t i (n ∷ b ∷ c ∷ e ∷ f ∷ g ∷ h ∷ j ∷ k ∷ l ∷ rest)
+  unfolding goodDevice goodQueue goodLight goodTorch goodHadPower
+  comparator-on kind n a b c e f g h j k l rest v =
       record {
         device = rw kind;
         queue = rw kind (rw kind at (v .queue));
-        lamp = rw kind (rw kind at (v .lamp));
+        light = rw kind (rw kind at (v .light));
         torch = rw kind (rw kind at (v .torch));
+        had-power = rw kind (rw kind at (v .had-power));
         rest = v .rest;
       }
 

@@ -72,8 +72,8 @@ module _ {p t st st′ : Bytes} {signal weak strong signal′ weak′ strong′ 
   ticks-tell {now} {asked} f =
       tells-also (settling-tells refl (tick-gives p t st (length signal) (length weak) (length strong) now asked) (f .answer) (f .columns)) (f .state)
 
-module _ {p t t′ st : Bytes} {q : Pos} {power : ℕ} {signal weak strong signal′ weak′ strong′ : Column} {r : ℕ} where
-  pub switch-tells : Switches p t t′ st q power signal weak strong signal′ weak′ strong′ r
+module _ {p t t′ st st′ : Bytes} {q : Pos} {power : ℕ} {signal weak strong signal′ weak′ strong′ : Column} {r : ℕ} where
+  pub switch-tells : Switches p t t′ st st′ q power signal weak strong signal′ weak′ strong′ r
       → Tells ofCall (checkStep p t st (length signal) (length weak) (length strong)) r
       (SettledTo p (switched t q power) (devicesOf t st) signal′ weak′ strong′ r × (t′ ≡ switched t q power))
       (Unchanged signal weak strong signal′ weak′ strong′ × (t′ ≡ t))

@@ -45,10 +45,12 @@ pub record Ticks (p t st st′ : Bytes) (now asked : ℕ) (signal weak strong si
       Columns (checkTick p t st now asked (length signal) (length weak) (length strong)) (settled p t (devicesOf t (ticks asked p t st)))
       signal weak strong signal′ weak′ strong′
 
-pub record Switches (p t t′ st : Bytes) (q : Pos) (power : ℕ) (signal weak strong signal′ weak′ strong′ : Column) (r : ℕ) : Type 0 where
+pub record Switches (p t t′ st st′ : Bytes) (q : Pos) (power : ℕ) (signal weak strong signal′ weak′ strong′ : Column) (r : ℕ) : Type 0 where
   pub answer :
       r ≡ answerOf (checkStep p t st (length signal) (length weak) (length strong)) (roundsOf p (switched t q power) (devicesOf t st))
   pub table : t′ ≡ written (checkStep p t st (length signal) (length weak) (length strong)) t (switched t q power)
+  -- no byte of the state changes, so neither of a bulb's: "A switch changes neither"
+  pub state : st′ ≡ st
   pub columns :
       Columns (checkStep p t st (length signal) (length weak) (length strong)) (settled p (switched t q power) (devicesOf t st))
       signal weak strong signal′ weak′ strong′

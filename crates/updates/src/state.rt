@@ -1,9 +1,9 @@
 // Loops over the rows of a state. Each row's sixteen bytes are lent by themselves.
 use columns::byte_at;
 use devices::device_step;
+use devices::light_step;
 use fresh::fresh_device;
 use fresh::fresh_step;
-use lamp::lamp_step;
 use world::row::rows;
 ghost use mathlib.Core.Path.{_≡_};
 ghost use Prim.Native.Nat.{_*_};
@@ -13,7 +13,7 @@ ghost use Rattle.world.specs.Rows.{rows};
 ghost use Rattle.levels.specs.Numbers.{numbers};
 ghost use Rattle.fresh.specs.Fresh.{freshRow};
 ghost use Rattle.updates.specs.State.{devicesOf, freshDevices};
-ghost use Rattle.updates.specs.Tick.{withDevices, withLamps};
+ghost use Rattle.updates.specs.Tick.{withDevices, withLights};
 
 // The device column of a state.
 pub fn fill_devices(table: &[u8], state: &[u8], devices: &mut [u8])
@@ -67,17 +67,17 @@ pub fn set_devices(
     }
 }
 
-// Every lamp, from the new settled power.
-pub fn set_lamps(table: &[u8], weak: &[u8], strong: &[u8], state: &mut [u8])
+// Every lamp and bulb, from the new settled power.
+pub fn set_lights(table: &[u8], weak: &[u8], strong: &[u8], state: &mut [u8])
     requires { ⌜ length (now state) ≡ rows (now table) * 16 ⌝ }
-    ensures { λ _. ⌜ now (state .exit) ≡ withLamps (now (table .entry)) (now (weak .entry)) (now (strong .entry)) (now (state .entry)) ⌝ }
+    ensures { λ _. ⌜ now (state .exit) ≡ withLights (now (table .entry)) (now (weak .entry)) (now (strong .entry)) (now (state .entry)) ⌝ }
 {
     let n = rows(table);
     let mut i = 0;
     while i < n {
         let start = i * 16;
         let end = start + 16;
-        lamp_step(table, weak, strong, i, &mut state[start..end]);
+        light_step(table, weak, strong, i, &mut state[start..end]);
         i += 1;
     }
 }

@@ -21,18 +21,24 @@ fresh-queue-requires c κs = search needs
 slice-write-sixteen-2 : tie.Need-slice-write-sixteen-2
 slice-write-sixteen-2 c = search needs
 
-fresh-lamp-requires : tie.Need-fresh-lamp-requires
-fresh-lamp-requires c κs = search needs
+fresh-light-requires : tie.Need-fresh-light-requires
+fresh-light-requires c κs = search needs
 
 slice-write-sixteen-3 : tie.Need-slice-write-sixteen-3
 slice-write-sixteen-3 c = simp length-set (omega arith)
+
+fresh-had-power-requires : tie.Need-fresh-had-power-requires
+fresh-had-power-requires c κs = search needs
+
+slice-write-sixteen-4 : tie.Need-slice-write-sixteen-4
+slice-write-sixteen-4 c = simp length-set (omega arith)
 
 same-length : tie.Need-same-length
 same-length c = search needs
 
 returns : tie.Need-returns
 unfolding freshRow
-returns c = rw (c .before .before .before .before .before .clear .ensures) (cc)
+returns c = rw (c .before .before .before .before .before .before .clear .ensures) (cc)
 
 pub fresh-step-spec : {M : Type 1} → statement M
 fresh-step-spec =
@@ -43,7 +49,9 @@ fresh-step-spec =
     slice-write-sixteen
     fresh-queue-requires
     slice-write-sixteen-2
-    fresh-lamp-requires
+    fresh-light-requires
     slice-write-sixteen-3
+    fresh-had-power-requires
+    slice-write-sixteen-4
     same-length
     returns)

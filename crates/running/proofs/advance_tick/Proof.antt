@@ -28,8 +28,8 @@ settle-state-requires c κs =
     let s = start d in
     (ready-next _ _ _ _ (set d) (s .pre .0 .0) (s .pre .0 .1), s .pre .1 .0)
 
-set-lamps-requires : tie.Need-set-lamps-requires
-set-lamps-requires c κs =
+set-lights-requires : tie.Need-set-lights-requires
+set-lights-requires c κs =
     let d = devices-set (c .before .before .before .before .before .before .before .before .before .before .before) in
     let s = start d in
     ready-next _ _ _ _ (set d) (s .pre .0 .0) (s .pre .0 .1) .long
@@ -55,7 +55,7 @@ returns c =
     let settled = last .before .before .before .before .before .before .before .before .before .before .before .before in
     let d = devices-set settled in
     let done = settled .settle-state .ensures in
-    let k = ticked (start d .pre .0 .1) (set d) (done .1) (done .0) (last .set-lamps .ensures) in
+    let k = ticked (start d .pre .0 .1) (set d) (done .1) (done .0) (last .set-lights .ensures) in
     (k .state, (k .rounds, k .columns))
 
 pub advance-tick-spec : {M : Type 1} → statement M
@@ -64,7 +64,7 @@ advance-tick-spec =
     (tie.spec
     set-devices-requires
     settle-state-requires
-    set-lamps-requires
+    set-lights-requires
     same-length
     same-length-2
     same-length-3

@@ -14,13 +14,13 @@ use Rattle.states.proofs.row.good_rest.Statement.{statement}
 use Rattle.states.proofs.row.good_rest.Tie as tie
 
 abbrev clear : List ℕ → ℕ → Bool
-clear r k = eqb (getD r (9 + k) 0) 0
+clear r k = eqb (getD r (10 + k) 0) 0
 
 abbrev Inv-loop : tie.InvT-loop
-Inv-loop sixteen k₀ k = (k ≤ 7) × (allBelow (clear sixteen) k ≡ true)
+Inv-loop sixteen k₀ k = (k ≤ 6) × (allBelow (clear sixteen) k ≡ true)
 
 abbrev μ-loop : tie.MeasureT-loop
-μ-loop sixteen k₀ k = 7 - k
+μ-loop sixteen k₀ k = 6 - k
 
 loop-holds : tie.Need-loop-holds Inv-loop μ-loop
 loop-holds c = (omega arith, refl)
@@ -32,7 +32,7 @@ byte-at-requires : tie.Need-byte-at-requires Inv-loop μ-loop
 byte-at-requires c κs = search needs
 
 returns : tie.Need-returns Inv-loop μ-loop
-returns c = let l = c .before .before .before in sym (all-fails (clear (c .before .before .before .before .before .args .sixteen .now)) 7 (l .loop .k) (omega arith) (rw (← c .before .byte-at .ensures) (ne-eqb _ 0 (c .if1 .taken))))
+returns c = let l = c .before .before .before in sym (all-fails (clear (c .before .before .before .before .before .args .sixteen .now)) 6 (l .loop .k) (omega arith) (rw (← c .before .byte-at .ensures) (ne-eqb _ 0 (c .if1 .taken))))
 
 add-k : tie.Need-add-k Inv-loop μ-loop
 add-k c = omega arith
@@ -44,7 +44,7 @@ loop-again : tie.Need-loop-again Inv-loop μ-loop
 loop-again c = let l = c .before .before .before in (omega arith, all-more (clear (c .before .before .before .before .before .args .sixteen .now)) (l .loop .k) (l .loop .inv .1) (rw (← c .before .byte-at .ensures) (eq-eqb _ 0 (c .if1 .left))))
 
 returns-2 : tie.Need-returns-2 Inv-loop μ-loop
-returns-2 c = let e : c .before .loop .k ≡ 7 = omega arith in sym (rw e at (c .before .loop .inv .1))
+returns-2 c = let e : c .before .loop .k ≡ 6 = omega arith in sym (rw e at (c .before .loop .inv .1))
 
 pub good-rest-spec : {M : Type 1} → statement M
 good-rest-spec =

@@ -16,11 +16,14 @@ good-device-requires c κs = search needs
 good-queue-requires : tie.Need-good-queue-requires
 good-queue-requires c κs = search needs
 
-good-lamp-requires : tie.Need-good-lamp-requires
-good-lamp-requires c κs = search needs
+good-light-requires : tie.Need-good-light-requires
+good-light-requires c κs = search needs
 
 good-torch-requires : tie.Need-good-torch-requires
 good-torch-requires c κs = search needs
+
+good-had-power-requires : tie.Need-good-had-power-requires
+good-had-power-requires c κs = search needs
 
 good-rest-requires : tie.Need-good-rest-requires
 good-rest-requires c κs = search needs
@@ -37,7 +40,8 @@ good-state-spec =
     byte-at-requires
     good-device-requires
     good-queue-requires
-    good-lamp-requires
+    good-light-requires
     good-torch-requires
+    good-had-power-requires
     good-rest-requires
     returns)

@@ -1,15 +1,15 @@
--- `updates::state::set_lamps` meets its contract. The loop's invariant: the lamps of the rows passed are set. Assumes nothing.
+-- `updates::state::set_lights` meets its contract. The loop's invariant: the lamps and bulbs of the rows passed are set. Assumes nothing.
 use borrow.Author.Needs.{needs}
 use Prim.Native.Nat.{_-_}
 use native.Mathlib.Omega.{arith}
-use Rattle.lamp.specs.Step.{lampRow}
-use Rattle.updates.specs.Tick.{withLamps}
+use Rattle.devices.specs.Step.{lightRow}
+use Rattle.updates.specs.Tick.{withLights}
 use Rattle.updates.proofs.Turns.{Turns, turns-all, turning}
-use Rattle.updates.proofs.state.set_lamps.Statement.{statement}
-use Rattle.updates.proofs.state.set_lamps.Tie as tie
+use Rattle.updates.proofs.state.set_lights.Statement.{statement}
+use Rattle.updates.proofs.state.set_lights.Tie as tie
 
 abbrev Inv-loop : tie.InvT-loop
-Inv-loop table weak strong state₀ n i₀ state i = Turns (lampRow table weak strong) table state₀ n i state
+Inv-loop table weak strong state₀ n i₀ state i = Turns (lightRow table weak strong) table state₀ n i state
 
 abbrev μ-loop : tie.MeasureT-loop
 μ-loop table weak strong state₀ n i₀ state i = n - i
@@ -26,17 +26,17 @@ mul-start c = omega arith
 add-end : tie.Need-add-end Inv-loop μ-loop
 add-end c = omega arith
 
-sub-lamp-step : tie.Need-sub-lamp-step Inv-loop μ-loop
-sub-lamp-step c = omega arith
+sub-light-step : tie.Need-sub-light-step Inv-loop μ-loop
+sub-light-step c = omega arith
 
-part-lamp-step-start : tie.Need-part-lamp-step-start Inv-loop μ-loop
-part-lamp-step-start c = omega arith
+part-light-step-start : tie.Need-part-light-step-start Inv-loop μ-loop
+part-light-step-start c = omega arith
 
-part-lamp-step-end : tie.Need-part-lamp-step-end Inv-loop μ-loop
-part-lamp-step-end c = omega arith
+part-light-step-end : tie.Need-part-light-step-end Inv-loop μ-loop
+part-light-step-end c = omega arith
 
-lamp-step-requires : tie.Need-lamp-step-requires Inv-loop μ-loop
-lamp-step-requires c κs = search (turning, needs)
+light-step-requires : tie.Need-light-step-requires Inv-loop μ-loop
+light-step-requires c κs = search (turning, needs)
 
 add-i : tie.Need-add-i Inv-loop μ-loop
 add-i c = omega arith
@@ -51,11 +51,11 @@ same-length : tie.Need-same-length Inv-loop μ-loop
 same-length c = omega arith
 
 returns : tie.Need-returns Inv-loop μ-loop
-unfolding withLamps
+unfolding withLights
 returns c = turns-all (c .before .loop .inv) (omega arith)
 
-pub set-lamps-spec : {M : Type 1} → statement M
-set-lamps-spec =
+pub set-lights-spec : {M : Type 1} → statement M
+set-lights-spec =
     tie.close
     (tie.spec
     Inv-loop
@@ -64,10 +64,10 @@ set-lamps-spec =
     loop-holds
     mul-start
     add-end
-    sub-lamp-step
-    part-lamp-step-start
-    part-lamp-step-end
-    lamp-step-requires
+    sub-light-step
+    part-light-step-start
+    part-light-step-end
+    light-step-requires
     add-i
     loop-less
     loop-again
