@@ -1,3 +1,4 @@
 pub mod Apart
 pub mod Networks
+pub mod Profiles
 pub mod Torches

@@ -1,41 +1,20 @@
 -- Document 02, Change 3: the network of a table with value 32 of the torch's byte, and without it. Assumes nothing.
-use mathlib.Core.Path.{_≡_, refl, ap, _∙_}
+use mathlib.Core.Path.{_≡_, refl, _∙_}
 use mathlib.Core.Bool.{Bool, true, false, _&&_, _||_, or-false}
 use Prim.Native.Nat.{ℕ}
 use Rattle.columns.specs.Column.{Bytes}
-use Rattle.columns.specs.First.{onFound}
-use Rattle.network.specs.Network.{Network}
-use Rattle.blocks.specs.Kind.{isDust}
-use Rattle.blocks.specs.Profile.{torchChargesAbove, propertiesOf}
+use Rattle.blocks.specs.Profile.{torchChargesAbove}
 use Rattle.blocks.proofs.Values.{withoutValue, value-gone, same-properties}
-use Rattle.places.specs.declared.Pos.{Pos}
-use Rattle.places.specs.Places.{North, East, South, West, beside, above, below}
-use Rattle.world.specs.Rows.{rows, posOf, kindOf}
-use Rattle.world.specs.Find.{find}
-use Rattle.traits.specs.Traits.{nothing, plain, traits, traitsAt, conducts}
-use Rattle.arms.specs.Arms.{rises, inferPast, inferWireConnection, armOf}
-use Rattle.wire.specs.Transfer.{fitsRise, fitsFall, ruleAlong, firstRule, transferBy, transmitsBy}
-use Rattle.edges.specs.Edges.{isSupportOf, outputsTo, isNextToRedstoneBlock, isOverTorch, emittedToStrong, strongToWeak, dustToWeakBy, emittedToDustBy, strongToDustBy, networkBy, networkOf}
+use Rattle.network.specs.Network.{Network}
+use Rattle.world.specs.Rows.{kindOf}
+use Rattle.traits.specs.Traits.{traits}
+use Rattle.edges.specs.Edges.{isSupportOf, outputsTo, isNextToRedstoneBlock, isOverTorch, emittedToStrong, networkBy, networkOf}
+use Rattle.edges.proofs.Profiles.{withStrong, same-traits, same-but-strong}
 
 -- "Strong power: lever, button, plate reach their support, repeater and comparator their output, redstone block its six neighbours, where the
 -- target receives strong": document 01's sentence alone
 abbrev pub strong01 : Bytes → Bytes → ℕ → ℕ → Bool
 strong01 p t j i = traits p t i .strong && (isSupportOf t j i || (outputsTo t j i || isNextToRedstoneBlock t j i))
-
--- the network N with these edges of strong power
-abbrev pub withStrong : Network → (ℕ → ℕ → Bool) → Network
-withStrong N strong =
-    record {
-      size = N .size;
-      dust = N .dust;
-      mapped = N .mapped;
-      emittedToStrong = strong;
-      strongToWeak = N .strongToWeak;
-      dustToWeak = N .dustToWeak;
-      transmits = N .transmits;
-      emittedToDust = N .emittedToDust;
-      strongToDust = N .strongToDust;
-    }
 
 -- the table's network, with document 01's edges of strong power
 abbrev pub network01 : Bytes → Bytes → Network
@@ -72,67 +51,13 @@ network-with-value p t value = λ x. withStrong (networkOf p t) (λ j i. edge j 
 
 module _ (p t : Bytes) where
   pub traits-without-value : (i : ℕ) → traits (withoutValue p) t i ≡ traits p t i
-  unfolding traits plain propertiesOf
-  traits-without-value i =
-      let same = same-properties p (kindOf t i) in
-      rw (ap (λ r. r .«supports_components») same, ap (λ r. r .«receives_weak_power») same, ap (λ r. r .«receives_strong_power») same, ap (λ r. r .«strong_power_drives_dust») same)
-      refl
+  traits-without-value i = same-traits (withoutValue p) p t i (same-properties p (kindOf t i))
 
-  traits-at : (q : Pos) → traitsAt (withoutValue p) t q ≡ traitsAt p t q
-  unfolding traitsAt
-  traits-at q = λ x. onFound (λ i. traits-without-value i x) nothing (find t q)
-
-  arm-of : (i f : ℕ) → armOf (withoutValue p) t i f ≡ armOf p t i f
-  unfolding armOf inferWireConnection inferPast rises
-  arm-of i f = rw (traits-at (beside (posOf t i) f), traits-at (above (posOf t i))) refl
-
-  transmits-by : (arm : ℕ → ℕ → ℕ) (j i : ℕ) → transmitsBy arm (withoutValue p) t j i ≡ transmitsBy arm p t j i
-  unfolding transmitsBy transferBy firstRule ruleAlong fitsRise fitsFall
-  transmits-by arm j i =
-      let side : (f : ℕ) → traitsAt (withoutValue p) t (beside (posOf t j) f) ≡ traitsAt p t (beside (posOf t j) f) = λ f. traits-at (beside (posOf t j) f) in
-      rw (side North, side East, side South, side West, traits-at (below (posOf t j))) refl
-
-  arms : armOf (withoutValue p) t ≡ armOf p t
-  arms = λ x i f. arm-of i f x
-
-  module _ (j i : ℕ) where
-    strong-01 : strong01 (withoutValue p) t j i ≡ strong01 p t j i
-    strong-01 = rw (traits-without-value i) refl
-
-    strong-to-weak : strongToWeak (withoutValue p) t j i ≡ strongToWeak p t j i
-    unfolding strongToWeak
-    strong-to-weak = rw (traits-without-value i) refl
-
-    dust-to-weak : dustToWeakBy (armOf (withoutValue p) t) (withoutValue p) t j i ≡ dustToWeakBy (armOf p t) p t j i
-    unfolding dustToWeakBy
-    dust-to-weak = rw (arms, traits-without-value i) refl
-
-    transmits : transmitsBy (armOf (withoutValue p) t) (withoutValue p) t j i ≡ transmitsBy (armOf p t) p t j i
-    transmits = rw arms (transmits-by (armOf p t) j i)
-
-    emitted-to-dust : emittedToDustBy (armOf (withoutValue p) t) (withoutValue p) t j i ≡ emittedToDustBy (armOf p t) p t j i
-    unfolding emittedToDustBy
-    emitted-to-dust = rw arms refl
-
-    strong-to-dust : strongToDustBy (armOf (withoutValue p) t) (withoutValue p) t j i ≡ strongToDustBy (armOf p t) p t j i
-    unfolding strongToDustBy
-    strong-to-dust = rw (arms, traits-without-value j) refl
-
-  same-01 : network01 (withoutValue p) t ≡ network01 p t
-  unfolding networkOf networkBy
-  same-01 =
-      λ x. record {
-        size = rows t;
-        dust = λ i. isDust (kindOf t i);
-        mapped = λ i. conducts (traits-without-value i x);
-        emittedToStrong = λ j i. strong-01 j i x;
-        strongToWeak = λ j i. strong-to-weak j i x;
-        dustToWeak = λ j i. dust-to-weak j i x;
-        transmits = λ j i. transmits j i x;
-        emittedToDust = λ j i. emitted-to-dust j i x;
-        strongToDust = λ j i. strong-to-dust j i x;
-      }
+  strong-01 : (j i : ℕ) → strong01 (withoutValue p) t j i ≡ strong01 p t j i
+  strong-01 j i = rw (traits-without-value i) refl
 
   -- so that every edge but those of strong power is the same by the two profiles
   pub network-of-rest : networkOf (withoutValue p) t ≡ network01 p t
-  network-of-rest = network-without-value (withoutValue p) t (value-gone p) ∙ same-01
+  network-of-rest =
+      network-without-value (withoutValue p) t (value-gone p)
+      ∙ (λ x. withStrong (same-but-strong (withoutValue p) p t traits-without-value (strong01 p t) x) (λ j i. strong-01 j i x))

@@ -3,3 +3,4 @@ pub mod Devices
 pub mod Answers
 pub mod Demand
 pub mod Torches
+pub mod Bulbs

@@ -23,7 +23,8 @@ use Rattle.world.specs.Rows.{rows, posOf, kindOf}
 use Rattle.traits.specs.Traits.{traits}
 use Rattle.emitted.specs.Emitted.{emittedLevel, emitted}
 use Rattle.edges.specs.Edges.{isSupportOf, outputsTo, isNextToRedstoneBlock, isOverTorch, emittedToStrong, networkOf}
-use Rattle.edges.proofs.Torches.{strong01, withStrong, network01, overTorch, network-without-value, network-with-value, network-of-rest}
+use Rattle.edges.proofs.Profiles.{withStrong}
+use Rattle.edges.proofs.Torches.{strong01, network01, overTorch, network-without-value, network-with-value, network-of-rest}
 use Rattle.electrical.specs.Answer.{roundsOf, settled, Settles}
 use Rattle.electrical.proofs.Emitted.{level-byte, level-capped}
 use Rattle.electrical.proofs.Demand.{settles}

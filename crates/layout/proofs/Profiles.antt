@@ -2,13 +2,11 @@
 use mathlib.Core.Path.{_≡_, refl, ap, sym, _∙_}
 use mathlib.Core.Logic.{by-cases}
 use mathlib.Core.Bool.{Bool, true, false, _&&_, _||_, and-true}
-use mathlib.Core.List.{[], _∷_, _++_}
-use Prim.Native.Nat.{ℕ, _+_, _/_, _%_, _≤_, _<_}
+use Prim.Native.Nat.{ℕ, _/_, _%_, _≤_, _<_}
 use native.Mathlib.Decide.{ℕ-discrete, decLt}
 use native.Mathlib.Omega.{arith}
-use lib.ListN.{length, getD, length-set, length-append, List·getD-append, List·getD-eq-default}
+use lib.ListN.{length, getD, length-set, List·getD-eq-default}
 use lib.Dec.{eqb, leb}
-use lib.Seq.{getD-append-add}
 use borrow.Author.Tests.{ne-eqb, le-leb, lt-leb, eqb-false}
 use Rattle.columns.specs.Column.{Bytes}
 use Rattle.columns.specs.First.{allBelow}
@@ -17,6 +15,7 @@ use Rattle.columns.proofs.Truth.{and-false-right}
 use Rattle.blocks.specs.Kind.{RedstoneTorch, CopperBulb}
 use Rattle.blocks.specs.Profile.{says, torchChargesAbove}
 use Rattle.blocks.proofs.Values.{withoutValue, torch-byte, other-byte}
+use Rattle.blocks.proofs.Bulbs.{withBulb, length-with-bulb, bulb-byte, kind-byte}
 use Rattle.layout.specs.Good.{mostOf, goodLength, lowBytes, goodProfile}
 
 -- number 1 of document 01 does not fall on the profile: "not 13 bytes, Air not 0, or a byte above 31"
@@ -42,25 +41,17 @@ other-length p m n = rw (ne-eqb (length p) 13 m, ne-eqb (length p) 14 n)
 low-13 : (p : Bytes) → length p ≡ 13 → lowBytes p ≡ allBelow (λ k. leb (getD p k 0) (mostOf k)) 13
 low-13 p h = let none : getD p CopperBulb 0 ≡ 0 = List·getD-eq-default p 0 (omega arith) in rw (none, and-true) refl
 
-module _ (p : Bytes) (b : ℕ) (h : length p ≡ 13) where
-  -- the bytes of 13 with a fourteenth
-  its-byte : (k : ℕ) → k < 13 → getD (p ++ b ∷ []) k 0 ≡ getD p k 0
-  its-byte k l = List·getD-append p (b ∷ []) 0 k (omega arith)
-
-  bulb-byte : getD (p ++ b ∷ []) CopperBulb 0 ≡ b
-  bulb-byte = rw h at (getD-append-add p (b ∷ []) 0 0)
-
-  -- 13 bytes with a fourteenth are good where the 13 are, and the bulb's is at most 31
-  pub with-bulb : goodProfile (p ++ b ∷ []) ≡ (goodProfile p && leb b 31)
-  unfolding goodProfile
-  with-bulb =
-      let long : length (p ++ b ∷ []) ≡ 14 = length-append p (b ∷ []) ∙ ap (λ n. n + 1) h in
-      let good : goodLength (p ++ b ∷ []) ≡ goodLength p = ap (λ n. eqb n 13 || eqb n 14) long ∙ sym (ap (λ n. eqb n 13 || eqb n 14) h) in
-      let air : eqb (getD (p ++ b ∷ []) 0 0) 0 ≡ eqb (getD p 0 0) 0 = ap (λ n. eqb n 0) (its-byte 0 (omega arith)) in
-      let others : allBelow (λ k. leb (getD (p ++ b ∷ []) k 0) (mostOf k)) 13 ≡ lowBytes p =
-      all-same _ _ 13 (λ k l. ap (λ n. leb n (mostOf k)) (its-byte k l)) ∙ sym (low-13 p h) in
-      let low : lowBytes (p ++ b ∷ []) ≡ (lowBytes p && leb b 31) = both others (ap (λ n. leb n 31) bulb-byte) in
-      both good (both air low) ∙ in-front (goodLength p) (eqb (getD p 0 0) 0) (lowBytes p) (leb b 31)
+-- 13 bytes with a fourteenth are good where the 13 are, and the bulb's is at most 31
+pub good-with-bulb : (p : Bytes) (b : ℕ) → length p ≡ 13 → goodProfile (withBulb p b) ≡ (goodProfile p && leb b 31)
+unfolding goodProfile
+good-with-bulb p b h =
+    let good : goodLength (withBulb p b) ≡ goodLength p =
+    ap (λ n. eqb n 13 || eqb n 14) (length-with-bulb p b h) ∙ sym (ap (λ n. eqb n 13 || eqb n 14) h) in
+    let air : eqb (getD (withBulb p b) 0 0) 0 ≡ eqb (getD p 0 0) 0 = ap (λ n. eqb n 0) (kind-byte p b h 0 (λ e. omega arith)) in
+    let others : allBelow (λ k. leb (getD (withBulb p b) k 0) (mostOf k)) 13 ≡ lowBytes p =
+    all-same _ _ 13 (λ k l. ap (λ n. leb n (mostOf k)) (kind-byte p b h k (λ e. omega arith))) ∙ sym (low-13 p h) in
+    let low : lowBytes (withBulb p b) ≡ (lowBytes p && leb b 31) = both others (ap (λ n. leb n 31) (bulb-byte p b h)) in
+    both good (both air low) ∙ in-front (goodLength p) (eqb (getD p 0 0) 0) (lowBytes p) (leb b 31)
 
 -- ---- number 1 with 13 bytes
 

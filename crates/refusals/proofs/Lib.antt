@@ -4,3 +4,4 @@ pub mod Accepted
 pub mod Again
 pub mod Gives
 pub mod Tells
+pub mod Bulbs

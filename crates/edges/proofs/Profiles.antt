@@ -1,0 +1,106 @@
+-- What a table's network reads of a profile: the traits of the rows, and whether a torch charges the block above. Assumes nothing.
+use mathlib.Core.Path.{_≡_, refl, ap}
+use mathlib.Core.Bool.{Bool}
+use Prim.Native.Nat.{ℕ}
+use Rattle.columns.specs.Column.{Bytes}
+use Rattle.columns.specs.First.{onFound}
+use Rattle.network.specs.Network.{Network}
+use Rattle.blocks.specs.Kind.{isDust}
+use Rattle.blocks.specs.Profile.{torchChargesAbove, propertiesOf}
+use Rattle.places.specs.declared.Pos.{Pos}
+use Rattle.places.specs.Places.{North, East, South, West, beside, above, below}
+use Rattle.world.specs.Rows.{rows, posOf, kindOf}
+use Rattle.world.specs.Find.{find}
+use Rattle.traits.specs.Traits.{nothing, plain, traits, traitsAt, conducts}
+use Rattle.arms.specs.Arms.{rises, inferPast, inferWireConnection, armOf}
+use Rattle.wire.specs.Transfer.{fitsRise, fitsFall, ruleAlong, firstRule, transferBy, transmitsBy}
+use Rattle.edges.specs.Edges.{emittedToStrong, strongToWeak, dustToWeakBy, emittedToDustBy, strongToDustBy, networkBy, networkOf}
+
+-- the network N with these edges of strong power
+abbrev pub withStrong : Network → (ℕ → ℕ → Bool) → Network
+withStrong N strong =
+    record {
+      size = N .size;
+      dust = N .dust;
+      mapped = N .mapped;
+      emittedToStrong = strong;
+      strongToWeak = N .strongToWeak;
+      dustToWeak = N .dustToWeak;
+      transmits = N .transmits;
+      emittedToDust = N .emittedToDust;
+      strongToDust = N .strongToDust;
+    }
+
+-- ---- two profiles
+
+-- a row has the same traits by two profiles that have the same properties for its kind
+pub same-traits : (q p t : Bytes) (i : ℕ) → propertiesOf q (kindOf t i) ≡ propertiesOf p (kindOf t i) → traits q t i ≡ traits p t i
+unfolding traits plain propertiesOf
+same-traits q p t i same =
+    rw (ap (λ r. r .«supports_components») same, ap (λ r. r .«receives_weak_power») same, ap (λ r. r .«receives_strong_power») same, ap (λ r. r .«strong_power_drives_dust») same)
+    refl
+
+-- by which every row has the same traits
+module _ (q p t : Bytes) (same : (i : ℕ) → traits q t i ≡ traits p t i) where
+  traits-at : (c : Pos) → traitsAt q t c ≡ traitsAt p t c
+  unfolding traitsAt
+  traits-at c = λ x. onFound (λ i. same i x) nothing (find t c)
+
+  arm-of : (i f : ℕ) → armOf q t i f ≡ armOf p t i f
+  unfolding armOf inferWireConnection inferPast rises
+  arm-of i f = rw (traits-at (beside (posOf t i) f), traits-at (above (posOf t i))) refl
+
+  transmits-by : (arm : ℕ → ℕ → ℕ) (j i : ℕ) → transmitsBy arm q t j i ≡ transmitsBy arm p t j i
+  unfolding transmitsBy transferBy firstRule ruleAlong fitsRise fitsFall
+  transmits-by arm j i =
+      let side : (f : ℕ) → traitsAt q t (beside (posOf t j) f) ≡ traitsAt p t (beside (posOf t j) f) = λ f. traits-at (beside (posOf t j) f) in
+      rw (side North, side East, side South, side West, traits-at (below (posOf t j))) refl
+
+  arms : armOf q t ≡ armOf p t
+  arms = λ x i f. arm-of i f x
+
+  module _ (j i : ℕ) where
+    strong-to-weak : strongToWeak q t j i ≡ strongToWeak p t j i
+    unfolding strongToWeak
+    strong-to-weak = rw (same i) refl
+
+    dust-to-weak : dustToWeakBy (armOf q t) q t j i ≡ dustToWeakBy (armOf p t) p t j i
+    unfolding dustToWeakBy
+    dust-to-weak = rw (arms, same i) refl
+
+    transmits : transmitsBy (armOf q t) q t j i ≡ transmitsBy (armOf p t) p t j i
+    transmits = rw arms (transmits-by (armOf p t) j i)
+
+    emitted-to-dust : emittedToDustBy (armOf q t) q t j i ≡ emittedToDustBy (armOf p t) p t j i
+    unfolding emittedToDustBy
+    emitted-to-dust = rw arms refl
+
+    strong-to-dust : strongToDustBy (armOf q t) q t j i ≡ strongToDustBy (armOf p t) p t j i
+    unfolding strongToDustBy
+    strong-to-dust = rw (arms, same j) refl
+
+  -- the network is the same but for the edges of strong power,
+  pub same-but-strong : (strong : ℕ → ℕ → Bool) → withStrong (networkOf q t) strong ≡ withStrong (networkOf p t) strong
+  unfolding networkOf networkBy
+  same-but-strong strong =
+      λ x. record {
+        size = rows t;
+        dust = λ i. isDust (kindOf t i);
+        mapped = λ i. conducts (same i x);
+        emittedToStrong = strong;
+        strongToWeak = λ j i. strong-to-weak j i x;
+        dustToWeak = λ j i. dust-to-weak j i x;
+        transmits = λ j i. transmits j i x;
+        emittedToDust = λ j i. emitted-to-dust j i x;
+        strongToDust = λ j i. strong-to-dust j i x;
+      }
+
+  -- and where torches charge alike, these are the same, too
+  module _ (torch : torchChargesAbove q ≡ torchChargesAbove p) where
+    to-strong : (j i : ℕ) → emittedToStrong q t j i ≡ emittedToStrong p t j i
+    unfolding emittedToStrong
+    to-strong j i = rw (same i, torch) refl
+
+    pub same-network-by : networkOf q t ≡ networkOf p t
+    unfolding networkOf networkBy
+    same-network-by = λ x. withStrong (same-but-strong (λ j i. to-strong j i x) x) (λ j i. to-strong j i x)
