@@ -191,7 +191,7 @@ charged = torch-charges refl is-over
 -- `reach-63` and `past-63`, of profiles that meet their hypotheses
 reached : goodProfile (with RedstoneTorch 63) ≡ goodProfile01 (withoutValue (with RedstoneTorch 63))
 unfolding with
-reached = reach-63 (with RedstoneTorch 63) (omega arith)
+reached = reach-63 (with RedstoneTorch 63) refl (omega arith)
 
 passed : goodProfile (with RedstoneTorch 64) ≡ false
 unfolding with

@@ -1,0 +1,151 @@
+-- Document 02, Change 4, computed: a bulb's light over ticks and switches, fresh and valid states of bulbs, and which rows and profiles are refused.
+-- Assumes nothing.
+use mathlib.Core.Path.{_≡_, refl}
+use mathlib.Core.List.{List, [], _∷_, _++_}
+use Prim.Native.Nat.{ℕ, _+_, _*_}
+use native.Mathlib.Omega.{arith}
+use lib.ListN.{set, take, replicate}
+use lib.Dec.{T}
+use lib.IntN.{pos, negsuc}
+use Rattle.columns.specs.Column.{Bytes, Column, tabulate}
+use Rattle.blocks.specs.Kind.{Solid, RedstoneTorch, Repeater, Lever, RedstoneLamp, RedstoneBlock, CopperBulb}
+use Rattle.blocks.specs.Profile.{benchProfile, benchProfileWithBulb}
+use Rattle.places.specs.Places.{cell}
+use Rattle.refusals.specs.declared.Checked.the-variants.{Refused}
+use Rattle.refusals.specs.Check.{answerOf, checkInput}
+use Rattle.refusals.proofs.Bulbs.{bulb-refused}
+use Rattle.states.specs.Row.{litOf, hadPowerOf}
+use Rattle.updates.specs.State.{sixteen, checkState, freshState}
+use Rattle.updates.specs.Tick.{tick}
+use Rattle.switching.specs.Switch.{switched}
+use Rattle.cases.proofs.Computing.{computing}
+use Rattle.cases.proofs.Build.{block, powered, support}
+use Rattle.cases.proofs.Cases.{Case, passes}
+
+-- the bench profile with the byte b for the bulb
+with : ℕ → Bytes
+with b = benchProfile ++ b ∷ []
+
+bulb : Bytes
+bulb = block CopperBulb 0 0 0
+
+-- powered false
+unlit : Bytes → Bytes
+unlit r = set r 14 1
+
+-- light and byte 9 of row i
+lightOf : Bytes → ℕ → Column
+unfolding computing
+lightOf st i = litOf (sixteen st i) ∷ hadPowerOf (sixteen st i) ∷ []
+
+-- light and byte 9 of a fresh bulb, by itself and under a redstone block
+freshBulb : Bytes → Column
+unfolding computing lightOf
+freshBulb r = lightOf (freshState benchProfileWithBulb r) 0 ++ lightOf (freshState benchProfileWithBulb (r ++ block RedstoneBlock 0 1 0)) 0
+
+-- a bulb with a lever on it
+switchable : Bytes
+unfolding bulb
+switchable = bulb ++ support (pos 0) (negsuc 0) (pos 0) (block Lever 0 1 0)
+
+thrown : Bytes → ℕ → Bytes
+unfolding computing
+thrown t power = switched t (cell (pos 0) (pos 1) (pos 0)) power
+
+-- the state after the lever is thrown to each power of the list, with a tick after each
+played : Bytes → List ℕ → Bytes → Bytes → Bytes
+unfolding computing thrown
+played p [] t st = st
+played p (power ∷ rest) t st = played p rest (thrown t power) (tick p (thrown t power) st)
+
+-- light and byte 9 of the bulb then, by the bulb's byte
+playedBy : ℕ → List ℕ → Column
+unfolding computing with switchable played lightOf
+playedBy b powers = lightOf (played (with b) powers switchable (freshState (with b) switchable)) 0
+
+-- the lever on and off again before the tick
+pulsed : Column
+unfolding computing switchable thrown lightOf
+pulsed =
+    let t = thrown (thrown switchable 1) 0 in
+    lightOf (tick benchProfileWithBulb t (freshState benchProfileWithBulb switchable)) 0
+
+-- what a profile and these rows are answered: 0, or the refusal
+answered : Bytes → Bytes → ℕ
+unfolding computing
+answered p t = answerOf (checkInput p t) 0
+
+-- what a state of one row is answered
+stateOf : Bytes → Bytes → ℕ
+unfolding computing
+stateOf t st = answerOf (checkState t st) 0
+
+-- sixteen bytes of which byte k is b
+byte : ℕ → ℕ → Bytes
+byte k b = set (replicate 16 0) k b
+
+number1 : ℕ
+number1 = 65536
+
+number6 : ℕ
+number6 = 6 * 65536
+
+-- number 4 at row i
+number4 : ℕ → ℕ
+number4 i = 4 * 65536 + i
+
+cases : List Case
+unfolding with bulb unlit freshBulb switchable playedBy pulsed answered stateOf byte number1 number6 number4
+cases =
+    -- fresh, by itself and under a redstone block: powered missing, false and true
+    record { given = freshBulb bulb; wanted = 0 ∷ 0 ∷ 0 ∷ 1 ∷ [] }
+    ∷ record { given = freshBulb (unlit bulb); wanted = 0 ∷ 0 ∷ 0 ∷ 1 ∷ [] }
+    ∷ record { given = freshBulb (powered bulb); wanted = 1 ∷ 0 ∷ 1 ∷ 1 ∷ [] }
+    -- power arrives; is held; goes; comes again; is held
+    ∷ record { given = playedBy 7 (1 ∷ []); wanted = 1 ∷ 1 ∷ [] }
+    ∷ record { given = playedBy 7 (1 ∷ 1 ∷ []); wanted = 1 ∷ 1 ∷ [] }
+    ∷ record { given = playedBy 7 (1 ∷ 1 ∷ 0 ∷ []); wanted = 1 ∷ 0 ∷ [] }
+    ∷ record { given = playedBy 7 (1 ∷ 1 ∷ 0 ∷ 1 ∷ []); wanted = 0 ∷ 1 ∷ [] }
+    ∷ record { given = playedBy 7 (1 ∷ 1 ∷ 0 ∷ 1 ∷ 1 ∷ []); wanted = 0 ∷ 1 ∷ [] }
+    -- pulses of one tick, and none; on and off between two ticks
+    ∷ record { given = playedBy 7 (1 ∷ 0 ∷ 1 ∷ 0 ∷ 1 ∷ []) ++ playedBy 7 (0 ∷ 0 ∷ []); wanted = 1 ∷ 1 ∷ 0 ∷ 0 ∷ [] }
+    ∷ record { given = pulsed; wanted = 0 ∷ 0 ∷ [] }
+    -- a lever gives strong power: a bulb that receives it alone, weak power alone, neither
+    ∷ record { given = playedBy 4 (1 ∷ []) ++ playedBy 2 (1 ∷ []) ++ playedBy 25 (1 ∷ []); wanted = 1 ∷ 1 ∷ 0 ∷ 0 ∷ 0 ∷ 0 ∷ [] }
+    -- "with 13 a bulb row is number 4"; a row of kind 14 is with 14, too
+    ∷ record {
+      given =
+          answered benchProfile bulb ∷ answered benchProfile (block Solid 0 0 0 ++ block CopperBulb 0 1 0) ∷ answered benchProfileWithBulb bulb
+          ∷ answered benchProfileWithBulb (block 14 0 0 0) ∷ answered benchProfileWithBulb (bulb ++ bulb) ∷ [];
+      wanted = number4 0 ∷ number4 1 ∷ 0 ∷ number4 0 ∷ 5 * 65536 + 1 ∷ [];
+    }
+    -- profiles of 0 to 16 bytes
+    ∷ record {
+      given = tabulate 17 (λ n. answered (take n (with 7 ++ 0 ∷ 0 ∷ [])) []);
+      wanted = replicate 13 number1 ++ 0 ∷ 0 ∷ number1 ∷ number1 ∷ [];
+    }
+    -- the bulb's byte may reach 31
+    ∷ record { given = answered (with 0) [] ∷ answered (with 31) [] ∷ answered (with 32) [] ∷ answered (with 63) [] ∷ []; wanted = 0 ∷ 0 ∷ number1 ∷ number1 ∷ [] }
+    -- a bulb's state: each byte at 1, and bytes 2 and 9 at 2
+    ∷ record {
+      given = tabulate 16 (λ k. stateOf bulb (byte k 1));
+      wanted = number6 ∷ number6 ∷ 0 ∷ replicate 6 number6 ++ 0 ∷ replicate 6 number6;
+    }
+    ∷ record { given = stateOf bulb (byte 2 2) ∷ stateOf bulb (byte 9 2) ∷ []; wanted = number6 ∷ number6 ∷ [] }
+    -- byte 9 of other kinds
+    ∷ record {
+      given =
+          stateOf (block RedstoneLamp 0 0 0) (byte 9 1) ∷ stateOf (block RedstoneTorch 0 0 0) (byte 9 1) ∷ stateOf (block Repeater 0 0 0) (byte 9 1)
+          ∷ stateOf (block Solid 0 0 0) (byte 9 1) ∷ [];
+      wanted = number6 ∷ number6 ∷ number6 ∷ number6 ∷ [];
+    }
+    ∷ []
+
+claim : T (passes cases)
+unfolding passes cases
+claim = tt
+
+-- `bulb-refused`, of a table that meets every hypothesis
+refused : checkInput benchProfile bulb ≡ Refused 4 0
+unfolding computing bulb
+refused = bulb-refused benchProfile bulb 0 refl refl refl (omega arith) (omega arith) refl (λ j l. absurd (omega arith))
