@@ -40,7 +40,7 @@ abbrev pub propertyAgrees : Bytes → Bytes → ℕ → Bool
 propertyAgrees p want k = eqb (kindProperties p k) (getD want k 0)
 
 unfoldable pub propertiesAgree : Bytes → Bytes → Bool
-propertiesAgree p want = allBelow (propertyAgrees p want) 13
+propertiesAgree p want = allBelow (propertyAgrees p want) 14
 
 -- ---- positions
 

@@ -24,7 +24,7 @@ module _ (r : Bytes) where
 
   -- 5: profile; properties
   abbrev pub propertiesRight : Bool
-  propertiesRight = hasParts r 1 13 && propertiesAgree (sliceOf r 0) (after r 1)
+  propertiesRight = hasParts r 1 14 && propertiesAgree (sliceOf r 0) (after r 1)
 
   -- 6: position, step, position
   abbrev pub offsetRight : Bool

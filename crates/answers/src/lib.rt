@@ -56,7 +56,7 @@ pub fn find_agrees(table: &[u8], q: Pos, row: u64, kind: u8) -> bool
 
 // Whether a property has the number that stands at its kind.
 fn property_agrees(profile: &[u8], want: &[u8], kind: usize) -> bool
-    requires { ⌜ kind < 13 ⌝ }
+    requires { ⌜ kind < 14 ⌝ }
     ensures { λ r. ⌜ r ≡ propertyAgrees (now (profile .entry)) (now (want .entry)) kind ⌝ }
 {
     probe::probe_properties(profile, kind as u32) == (byte_at(want, kind) as u32)
@@ -67,7 +67,7 @@ pub fn properties_agree(profile: &[u8], want: &[u8]) -> bool
     ensures { λ r. ⌜ r ≡ propertiesAgree (now (profile .entry)) (now (want .entry)) ⌝ }
 {
     let mut kind = 0;
-    while kind < 13 {
+    while kind < 14 {
         if property_agrees(profile, want, kind) {
             kind += 1;
         } else {

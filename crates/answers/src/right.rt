@@ -45,7 +45,7 @@ pub fn find_right(r: &[u8]) -> bool
 pub fn properties_right(r: &[u8]) -> bool
     ensures { λ b. ⌜ b ≡ propertiesRight (now (r .entry)) ⌝ }
 {
-    has_parts(r, 1, 13) & properties_agree(slice_of(r, 0), after(r, 1))
+    has_parts(r, 1, 14) & properties_agree(slice_of(r, 0), after(r, 1))
 }
 
 pub fn offset_right(r: &[u8]) -> bool

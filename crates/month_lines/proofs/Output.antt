@@ -1,15 +1,15 @@
 -- The output for a whole input, by its profile and what follows it.
 -- Assumes nothing.
 use mathlib.Core.Path.{_≡_}
-use mathlib.Core.Bool.{false, _&&_}
+use mathlib.Core.Bool.{false}
 use mathlib.Core.List.{_++_}
 use Prim.Native.Nat.{_<_}
 use native.Mathlib.Omega.{arith}
 use lib.ListN.{length, length-take}
 use lib.Seq.{take-at, drop-at}
-use borrow.Author.Tests.{ne-eqb}
 use Rattle.columns.specs.Column.{Bytes}
 use Rattle.layout.specs.Good.{goodProfile}
+use Rattle.layout.proofs.Profiles.{other-length}
 use Rattle.lines.specs.Lines.{refusalText}
 use Rattle.totals.specs.Month.{monthOf}
 use Rattle.month_lines.specs.Lines.{textOf, profileOf, outputOf}
@@ -26,7 +26,6 @@ output-refused input h = rw h
 
 -- of an input that ends before the profile does
 pub output-short : (input : Bytes) → length input < 13 → outputOf input ≡ refusalText 1 0
-unfolding goodProfile
 output-short input h =
-    let short : length (profileOf input) ≡ 13 → ⊥ = λ e. omega (arith, e, length-take 13 input) in
-    output-refused input (rw (ne-eqb (length (profileOf input)) 13 short))
+    let short = length-take 13 input in
+    output-refused input (other-length (profileOf input) (λ e. omega (arith, e, short)) (λ e. omega (arith, e, short)))

@@ -30,10 +30,10 @@ use Rattle.electrical.proofs.Demand.{rounds-range, settled-bounded}
 use Rattle.fresh.specs.Fresh.{freshDevice}
 use Rattle.updates.specs.State.{freshDevices}
 use Rattle.text.proofs.Lengths.{line-few}
-use Rattle.lines.specs.Lines.{rowOf, settledText}
+use Rattle.lines.specs.Lines.{rowOf, settledText, refusalText}
 use Rattle.lines.proofs.Lengths.{row-few, refusal-few}
-use Rattle.report.specs.Text.{profileOf, tableOf, textOf, runText, checkRun, settleText, room}
-use Rattle.report.proofs.Run.{run-accepted, run-refused, crowded-text, whole-text}
+use Rattle.report.specs.Text.{profileBytes, profileOf, tableOf, textOf, hasWholeRows, runText, checkRun, settleText, room}
+use Rattle.report.proofs.Run.{run-accepted, run-refused, crowded-text, short-text, ragged-text, whole-text}
 
 -- ---- the text of an accepted table
 
@@ -95,8 +95,8 @@ small-input p t =
     (λ _.
     small-unless 3 (leb (rows t) 1024) _ (omega arith)
     (λ few.
-    small-at 4 0 (firstFrom (isBad t) (rows t) 0) _ (omega arith)
-    (λ k e. omega (arith, first-at (isBad t) (rows t) 0 k e .inside, leb-true (rows t) 1024 few))
+    small-at 4 0 (firstFrom (isBad (length p) t) (rows t) 0) _ (omega arith)
+    (λ k e. omega (arith, first-at (isBad (length p) t) (rows t) 0 k e .inside, leb-true (rows t) 1024 few))
     (small-at 5 1 (firstFrom (isMisplaced t) (rows t - 1) 0) Accepted (omega arith)
     (λ k e. omega (arith, first-at (isMisplaced t) (rows t - 1) 0 k e .inside, leb-true (rows t) 1024 few))
     tt))))
@@ -110,9 +110,19 @@ run-fits p t bytes = go (checkInput p t) refl (small-input p t)
     go Accepted e s = rw (run-accepted p t e) (settled-few t bytes p e)
     go (Refused n i) e s = rw (run-refused p t e) (omega (arith, refusal-few n i (omega (arith, s .0)) (omega (arith, s .1))))
 
+-- so does a refusal of row 0
+refusal-fits : (n : ℕ) → n ≤ 9 → length (refusalText n 0) ≤ room
+refusal-fits n h = omega (arith, refusal-few n 0 (omega arith) (omega arith))
+
 pub text-fits : (input : Bytes) → ((i : ℕ) → getD input i 0 ≤ 255) → length (settleText input) ≤ room
 text-fits input bytes =
-    by-cases (decLt 32781 (length input)) (λ l. rw (crowded-text input l) (omega (arith, refusal-few 3 0 (omega arith) (omega arith))))
-    (λ n.
-    rw (whole-text input (omega arith))
-    (run-fits (profileOf input) (tableOf input) (λ i. rw (getD-drop 13 input i 0) (bytes (13 + i)))))
+    by-cases (decLt 32782 (length input)) (λ l. rw (crowded-text input l) (refusal-fits 3 (omega arith)))
+    (λ m.
+    by-cases (decLt (length input) 13) (λ l. rw (short-text input l) (refusal-fits 1 (omega arith)))
+    (λ n. by-whole (hasWholeRows input) refl (omega arith) (omega arith)))
+  where
+    by-whole : (b : Bool) → hasWholeRows input ≡ b → 13 ≤ length input → length input ≤ 32782 → length (settleText input) ≤ room
+    by-whole true e h l =
+        rw (whole-text input h l e)
+        (run-fits (profileOf input) (tableOf input) (λ i. rw (getD-drop (profileBytes input) input i 0) (bytes (profileBytes input + i))))
+    by-whole false e h l = rw (ragged-text input h l e) (refusal-fits 2 (omega arith))

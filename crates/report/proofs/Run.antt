@@ -1,14 +1,19 @@
 -- Laws of a run of the program: which refusal falls on it. The fresh devices are always valid, and limit 128 is never too low.
 -- Assumes nothing.
 use mathlib.Core.Path.{_≡_, refl, _∙_}
-use Prim.Native.Nat.{ℕ, _≤_, _<_}
+use mathlib.Core.Logic.{by-cases}
+use mathlib.Core.Bool.{true, false, cond, _||_}
+use mathlib.Core.List.{_++_}
+use Prim.Native.Nat.{ℕ, _%_, _≤_, _<_}
+use native.Mathlib.Decide.{ℕ-discrete}
 use native.Mathlib.Omega.{arith}
-use lib.ListN.{length, length-take}
+use lib.ListN.{length, length-append}
+use lib.Seq.{take-at, drop-at}
+use lib.Dec.{eqb, leb}
 use borrow.Author.Tests.{eq-eqb, ne-eqb, le-leb, lt-leb}
 use Rattle.columns.specs.Column.{Bytes}
 use Rattle.world.specs.Rows.{rows}
 use Rattle.refusals.specs.declared.Checked.the-variants.{Accepted, Refused}
-use Rattle.layout.specs.Good.{goodProfile}
 use Rattle.refusals.specs.Check.{checkInput}
 use Rattle.refusals.proofs.Accepted.{accepted-input}
 use Rattle.electrical.specs.Answer.{checkCall, checkSettle}
@@ -16,7 +21,7 @@ use Rattle.electrical.proofs.Demand.{never-unsettled}
 use Rattle.updates.specs.State.{freshDevices}
 use Rattle.running.proofs.Valid.{fresh-devices-valid}
 use Rattle.lines.specs.Lines.{refusalText}
-use Rattle.report.specs.Text.{textOf, profileOf, tableOf, checkRun, checkWhole, runText, settleText}
+use Rattle.report.specs.Text.{textOf, profileBytes, profileOf, tableOf, checkRun, mostBytes, hasWholeRows, checkWhole, runText, settleText}
 
 -- ---- what falls on a run
 
@@ -40,21 +45,52 @@ module _ (p t : Bytes) where
 -- ---- the text of the whole input
 
 module _ (input : Bytes) where
-  pub crowded-text : 32781 < length input → settleText input ≡ refusalText 3 0
-  unfolding settleText checkWhole
-  crowded-text h = rw (lt-leb (length input) 32781 h)
+  -- the limit is 32,782, which has the remainder 14
+  crowded : 32782 < length input → leb (length input) (mostBytes input) ≡ false
+  crowded h = by-cases (ℕ-discrete (length input % 32) 14)
+      (λ e. rw (e, lt-leb (length input) 32782 h))
+      (λ n. rw (ne-eqb (length input % 32) 14 n, lt-leb (length input) 32781 (omega arith)))
 
-  -- fewer than 13 bytes are no profile
-  short-profile : length input < 13 → checkInput (profileOf input) (tableOf input) ≡ Refused 1 0
-  unfolding checkInput goodProfile
-  short-profile h =
-      let short : length (profileOf input) ≡ 13 → ⊥ = λ e. omega (arith, e, length-take 13 input) in
-      rw (ne-eqb (length (profileOf input)) 13 short)
+  within : length input ≤ 32782 → leb (length input) (mostBytes input) ≡ true
+  within h = by-cases (ℕ-discrete (length input % 32) 14)
+      (λ e. rw (e, le-leb (length input) 32782 h))
+      (λ n. rw (ne-eqb (length input % 32) 14 n, le-leb (length input) 32781 (omega arith)))
+
+  -- the profile is no longer than the input, for 14 is a remainder of no number below it
+  pub profile-fits : 13 ≤ length input → profileBytes input ≤ length input
+  profile-fits h = by-cases (ℕ-discrete (length input % 32) 14) (λ e. rw e (omega arith)) (λ n. rw (ne-eqb (length input % 32) 14 n) h)
+
+  pub crowded-text : 32782 < length input → settleText input ≡ refusalText 3 0
+  unfolding settleText checkWhole
+  crowded-text h = rw (crowded h)
 
   pub short-text : length input < 13 → settleText input ≡ refusalText 1 0
   unfolding settleText checkWhole
-  short-text h = rw (le-leb (length input) 32781 (omega arith), run-refused (profileOf input) (tableOf input) (short-profile h))
+  short-text h = rw (within (omega arith), lt-leb 13 (length input) h)
 
-  pub whole-text : length input ≤ 32781 → settleText input ≡ textOf (checkRun (profileOf input) (tableOf input)) (runText (profileOf input) (tableOf input))
+  pub ragged-text : 13 ≤ length input → length input ≤ 32782 → hasWholeRows input ≡ false → settleText input ≡ refusalText 2 0
   unfolding settleText checkWhole
-  whole-text h = rw (le-leb (length input) 32781 h)
+  ragged-text h l e = rw (within l, le-leb 13 (length input) h, e)
+
+  pub whole-text : 13 ≤ length input → length input ≤ 32782 → hasWholeRows input ≡ true → settleText input ≡ textOf (checkRun (profileOf input) (tableOf input)) (runText (profileOf input) (tableOf input))
+  unfolding settleText checkWhole
+  whole-text h l e = rw (within l, le-leb 13 (length input) h, e)
+
+-- ---- the text of a profile and a table, one after the other
+
+module _ (p t : Bytes) (rows-whole : length t % 32 ≡ 0) (rows-few : length t ≤ 32768) where
+  -- n bytes of profile leave n as the remainder
+  parted-text : (n : ℕ) → length p ≡ n → 13 ≤ n → n ≤ 14 → cond (eqb n 14) 14 13 ≡ n → (eqb n 13 || eqb n 14) ≡ true → settleText (p ++ t) ≡ textOf (checkRun p t) (runText p t)
+  parted-text n h least most told good =
+      let long = length-append p t in
+      let left : length (p ++ t) % 32 ≡ n = omega (arith, long) in
+      whole-text (p ++ t) (omega (arith, long)) (omega (arith, long)) (rw (left, good))
+      ∙ rw (left, told, take-at p t n h, drop-at p t n h)
+
+  -- with 13 bytes more than whole rows the profile is the first 13 bytes, and the table the rest
+  pub of-13 : length p ≡ 13 → settleText (p ++ t) ≡ textOf (checkRun p t) (runText p t)
+  of-13 h = parted-text 13 h (omega arith) (omega arith) refl refl
+
+  -- and with 14 more the first 14
+  pub of-14 : length p ≡ 14 → settleText (p ++ t) ≡ textOf (checkRun p t) (runText p t)
+  of-14 h = parted-text 14 h (omega arith) (omega arith) refl refl

@@ -1,11 +1,12 @@
--- The text that the program `settle` writes, as a function of the whole of its input.
+-- The text that the program `settle` writes, as a function of the whole of its input. What stands in quotation marks is document 01's, or document
+-- 02's, Change 4.
 -- Assumes nothing.
 use mathlib.Core.Path.{_≡_}
-use mathlib.Core.Bool.{cond}
+use mathlib.Core.Bool.{Bool, cond, _||_}
 use mathlib.Core.List.{[]}
-use Prim.Native.Nat.{ℕ, _≤_}
+use Prim.Native.Nat.{ℕ, _%_, _≤_}
 use lib.ListN.{length, take, drop}
-use lib.Dec.{leb}
+use lib.Dec.{eqb, leb}
 use Rattle.columns.specs.Column.{Bytes, atFront}
 use Rattle.world.specs.Rows.{rows}
 use Rattle.refusals.specs.declared.Checked.{Checked}
@@ -22,20 +23,35 @@ textOf (Refused n i) done = refusalText n i
 
 -- ---- the whole input
 
+-- "tells 13 from 14 by the length's remainder by 32": how many bytes the profile has
+abbrev pub profileBytes : Bytes → ℕ
+profileBytes input = cond (eqb (length input % 32) 14) 14 13
+
 -- "reads the profile and then the table"
 abbrev pub profileOf : Bytes → Bytes
-profileOf input = take 13 input
+profileOf input = take (profileBytes input) input
 
 abbrev pub tableOf : Bytes → Bytes
-tableOf input = drop 13 input
+tableOf input = drop (profileBytes input) input
 
 -- "takes the fresh devices and limit 128"; the columns have one entry per row
 unfoldable pub checkRun : Bytes → Bytes → Checked
 checkRun p t = checkSettle p t (freshDevices t) 128 (rows t) (rows t) (rows t)
 
--- "More than 32,781 bytes is number 3 before all else"
+-- 32,781 bytes, but "its byte limit becomes 32,782 with 14"
+abbrev pub mostBytes : Bytes → ℕ
+mostBytes input = cond (eqb (length input % 32) 14) 32782 32781
+
+-- after 13 bytes or 14 the rows are whole
+abbrev pub hasWholeRows : Bytes → Bool
+hasWholeRows input = eqb (length input % 32) 13 || eqb (length input % 32) 14
+
+-- "More than 32,781 bytes is number 3 before all else"; "still calls less than 13 bytes number 1 .. and calls any other remainder number 2, before
+-- number 1's other cases"
 unfoldable pub checkWhole : Bytes → Checked
-checkWhole input = refuseUnless 3 (leb (length input) 32781) (checkRun (profileOf input) (tableOf input))
+checkWhole input =
+    refuseUnless 3 (leb (length input) (mostBytes input))
+    (refuseUnless 1 (leb 13 (length input)) (refuseUnless 2 (hasWholeRows input) (checkRun (profileOf input) (tableOf input))))
 
 unfoldable pub runText : Bytes → Bytes → Bytes
 runText p t =

@@ -7,15 +7,18 @@ ghost use lib.ListN.{length};
 ghost use Rattle.refusals.specs.declared.Checked.the-variants.{Accepted};
 ghost use Rattle.refusals.specs.Check.{checkInput};
 ghost use Rattle.text.specs.Put.{Puts};
-ghost use Rattle.report.specs.Text.{checkRun, runText, textOf, settleText, room, Reports};
+ghost use Rattle.report.specs.Text.{profileBytes, profileOf, tableOf, checkRun, hasWholeRows, runText, textOf, settleText, room, Reports};
 
 // Where a buffer has this many bytes, the text has room in it.
 pub const ROOM: usize = 65536;
 
+// A profile without a byte for bulbs, and with one.
 const PROFILE: usize = 13;
 
-// A profile and the largest table.
-const MOST: usize = 32781;
+const PROFILE_WITH_BULB: usize = 14;
+
+// The longer profile and the largest table.
+const MOST: usize = 32782;
 
 // The text of an accepted table.
 fn settled(profile: &[u8], table: &[u8], out: &mut [u8]) -> usize
@@ -48,6 +51,33 @@ fn checked(profile: &[u8], table: &[u8], out: &mut [u8]) -> usize
     }
 }
 
+// How many bytes of an input are the profile's.
+fn profile_bytes(input: &[u8]) -> usize
+    ensures { λ r. ⌜ r ≡ profileBytes (now (input .entry)) ⌝ }
+{
+    if input.len() % row::WIDTH == PROFILE_WITH_BULB {
+        PROFILE_WITH_BULB
+    } else {
+        PROFILE
+    }
+}
+
+// Whether an input is a profile and whole rows, by its length.
+fn has_whole_rows(input: &[u8]) -> bool
+    ensures { λ r. ⌜ r ≡ hasWholeRows (now (input .entry)) ⌝ }
+{
+    (input.len() % row::WIDTH == PROFILE) | (input.len() % row::WIDTH == PROFILE_WITH_BULB)
+}
+
+// The text of an input of no fewer bytes than the shorter profile, parted into the profile and the table.
+fn parted(input: &[u8], out: &mut [u8]) -> usize
+    requires { ⌜ (13 ≤ length (now input)) × (room ≤ length (now out)) ⌝ }
+    ensures { λ r. ⌜ Puts (textOf (checkRun (profileOf (now (input .entry))) (tableOf (now (input .entry)))) (runText (profileOf (now (input .entry))) (tableOf (now (input .entry))))) 0 (now (out .entry)) (now (out .exit)) r ⌝ }
+{
+    let end = profile_bytes(input);
+    checked(&input[0..end], &input[end..], out)
+}
+
 // The text of the whole input.
 fn whole(input: &[u8], out: &mut [u8]) -> usize
     requires { ⌜ room ≤ length (now out) ⌝ }
@@ -59,7 +89,10 @@ fn whole(input: &[u8], out: &mut [u8]) -> usize
     if input.len() < PROFILE {
         return lines::refusal(out, 1, 0);
     }
-    checked(&input[0..PROFILE], &input[PROFILE..], out)
+    if has_whole_rows(input) {
+        return parted(input, out);
+    }
+    lines::refusal(out, 2, 0)
 }
 
 // Puts the text that the program writes for its whole input at the front of a buffer, and answers how many bytes it has. In a buffer

@@ -16,9 +16,9 @@ fn report_on(input: &[u8]) {
     }
 }
 
-// One byte more than a profile and the largest table have is enough to tell that there are too many.
+// One byte more than the longer profile and the largest table have is enough to tell that there are too many.
 fn main() {
-    let mut input = [0u8; 32782];
+    let mut input = [0u8; 32783];
     match reading::read_all(STDIN_FILENO, &mut input) {
         Input::Bytes(n) => report_on(&input[..n]),
         Input::Unreadable => {

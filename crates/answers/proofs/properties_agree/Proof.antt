@@ -10,10 +10,10 @@ use Rattle.answers.proofs.properties_agree.Statement.{statement}
 use Rattle.answers.proofs.properties_agree.Tie as tie
 
 abbrev Inv-loop : tie.InvT-loop
-Inv-loop profile want kind₀ kind = (kind ≤ 13) × (allBelow (propertyAgrees profile want) kind ≡ true)
+Inv-loop profile want kind₀ kind = (kind ≤ 14) × (allBelow (propertyAgrees profile want) kind ≡ true)
 
 abbrev μ-loop : tie.MeasureT-loop
-μ-loop profile want kind₀ kind = 13 - kind
+μ-loop profile want kind₀ kind = 14 - kind
 
 loop-holds : tie.Need-loop-holds Inv-loop μ-loop
 loop-holds c = (omega arith, refl)
@@ -38,13 +38,13 @@ unfolding propertiesAgree
 returns c =
     let l = c .before .before .before in
     let a = l .before .before .before .args in
-    sym (all-fails (propertyAgrees (a .profile .now) (a .want .now)) 13 (l .loop .kind) (omega arith) (sym (c .before .property-agrees .ensures) ∙ c .if1 .left))
+    sym (all-fails (propertyAgrees (a .profile .now) (a .want .now)) 14 (l .loop .kind) (omega arith) (sym (c .before .property-agrees .ensures) ∙ c .if1 .left))
 
 returns-2 : tie.Need-returns-2 Inv-loop μ-loop
 unfolding propertiesAgree
 returns-2 c =
     let l = c .before in
-    let all : l .loop .kind ≡ 13 = omega arith in
+    let all : l .loop .kind ≡ 14 = omega arith in
     sym (rw all at (l .loop .inv .1))
 
 pub properties-agree-spec : {M : Type 1} → statement M
