@@ -87,15 +87,18 @@ byte k b = set (replicate 16 0) k b
 number1 : ℕ
 number1 = 65536
 
-number6 : ℕ
-number6 = 6 * 65536
-
--- number 4 at row i
+-- at row i
 number4 : ℕ → ℕ
 number4 i = 4 * 65536 + i
 
+number5 : ℕ → ℕ
+number5 i = 5 * 65536 + i
+
+number6 : ℕ
+number6 = 6 * 65536
+
 cases : List Case
-unfolding with bulb unlit freshBulb switchable playedBy pulsed answered stateOf byte number1 number6 number4
+unfolding with bulb unlit freshBulb switchable playedBy pulsed answered stateOf byte number1 number4 number5 number6
 cases =
     -- fresh, by itself and under a redstone block: powered missing, false and true
     record { given = freshBulb bulb; wanted = 0 ∷ 0 ∷ 0 ∷ 1 ∷ [] }
@@ -117,7 +120,7 @@ cases =
       given =
           answered benchProfile bulb ∷ answered benchProfile (block Solid 0 0 0 ++ block CopperBulb 0 1 0) ∷ answered benchProfileWithBulb bulb
           ∷ answered benchProfileWithBulb (block 14 0 0 0) ∷ answered benchProfileWithBulb (bulb ++ bulb) ∷ [];
-      wanted = number4 0 ∷ number4 1 ∷ 0 ∷ number4 0 ∷ 5 * 65536 + 1 ∷ [];
+      wanted = number4 0 ∷ number4 1 ∷ 0 ∷ number4 0 ∷ number5 1 ∷ [];
     }
     -- profiles of 0 to 16 bytes
     ∷ record {

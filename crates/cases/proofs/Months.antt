@@ -1,29 +1,30 @@
 -- The month of a small stream, computed: what the program `month` writes for a whole input.
 -- Assumes nothing.
-use mathlib.Core.Path.{_≡_, sym, _∙_}
+use mathlib.Core.Path.{_≡_, refl, sym, _∙_}
 use mathlib.Core.Bool.{Bool, false, _&&_}
 use mathlib.Core.List.{[], _∷_, _++_}
-use Prim.Native.Nat.{_-_, _≤_}
-use lib.ListN.{length, drop}
+use Prim.Native.Nat.{_-_, _%_, _≤_, _<_}
+use native.Mathlib.Omega.{arith}
+use lib.ListN.{length, take, drop}
 use lib.Dec.{T}
 use Rattle.columns.specs.Column.{Bytes, same}
 use Rattle.columns.specs.Ascii.{ascii}
-use Rattle.blocks.specs.Kind.{Solid}
+use Rattle.blocks.specs.Kind.{Solid, CopperBulb}
 use Rattle.blocks.specs.Profile.{benchProfile}
 use Rattle.layout.specs.Good.{goodProfile}
 use Rattle.refusals.specs.Check.{checkInput}
-use Rattle.report.specs.Text.{profileOf, tableOf, settleText}
-use Rattle.report.proofs.Run.{run-refused, whole-text}
+use Rattle.report.specs.Text.{profileBytes, settleText}
+use Rattle.report.proofs.Run.{run-refused, short-text, whole-text}
 use Rattle.streams.specs.Stream.{asStream}
 use Rattle.month_lines.specs.Lines.{outputOf}
-use Rattle.month_lines.proofs.Output.{output-refused}
+use Rattle.month_lines.proofs.Output.{output-refused, output-short}
 use Rattle.cases.proofs.Computing.{computing}
 use Rattle.cases.proofs.Build.{block}
 use Rattle.cases.proofs.Cases.{line}
 
--- a table with a row of kind 13
+-- a table with a bulb, which a profile of 13 bytes has no byte for
 bad : Bytes
-bad = block Solid 0 0 0 ++ block 13 1 0 0
+bad = block Solid 0 0 0 ++ block CopperBulb 1 0 0
 
 -- test 3's table, a refused one, one without rows, and two bytes of a row count
 input : Bytes
@@ -59,7 +60,14 @@ claim : T (same (outputOf input) expected && endings)
 unfolding computing input expected endings
 claim = tt
 
--- "as in `settle`": a bad profile has the text that `settle` has for it, whatever follows within what `settle` takes
-pub as-settle : (i : Bytes) → length i ≤ 32781 → goodProfile (profileOf i) ≡ false → outputOf i ≡ settleText i
+-- "as in `settle`": a bad profile has the text that `settle` has for it, where whole rows follow it within what `settle` takes,
+pub as-settle : (i : Bytes) → length i % 32 ≡ 13 → length i ≤ 32781 → goodProfile (take 13 i) ≡ false → outputOf i ≡ settleText i
 unfolding checkInput
-as-settle i l h = output-refused i h ∙ sym (whole-text i l ∙ rw (run-refused (profileOf i) (tableOf i) {n = 1} {i = 0} (rw h)))
+as-settle i r l h =
+    let parted : profileBytes i ≡ 13 = rw r refl in
+    output-refused i h
+    ∙ sym (whole-text i (omega arith) (omega arith) (rw r refl) ∙ rw (parted, run-refused (take 13 i) (drop 13 i) {n = 1} {i = 0} (rw h)))
+
+-- and where it is cut short
+pub as-settle-short : (i : Bytes) → length i < 13 → outputOf i ≡ settleText i
+as-settle-short i h = output-short i h ∙ sym (short-text i h)
