@@ -101,6 +101,9 @@ small-input p t =
     (λ k e. omega (arith, first-at (isMisplaced t) (rows t - 1) 0 k e .inside, leb-true (rows t) 1024 few))
     tt))))
 
+refusal-fits : (n i : ℕ) → Small (Refused n i) → length (refusalText n i) ≤ room
+refusal-fits n i s = omega (arith, refusal-few n i (omega (arith, s .0)) (omega (arith, s .1)))
+
 -- ---- the text of the whole input
 
 run-fits : (p t : Bytes) → ((i : ℕ) → getD t i 0 ≤ 255) → length (textOf (checkRun p t) (runText p t)) ≤ room
@@ -108,21 +111,17 @@ run-fits p t bytes = go (checkInput p t) refl (small-input p t)
   where
     go : (c : Checked) → checkInput p t ≡ c → Small c → length (textOf (checkRun p t) (runText p t)) ≤ room
     go Accepted e s = rw (run-accepted p t e) (settled-few t bytes p e)
-    go (Refused n i) e s = rw (run-refused p t e) (omega (arith, refusal-few n i (omega (arith, s .0)) (omega (arith, s .1))))
-
--- so does a refusal of row 0
-refusal-fits : (n : ℕ) → n ≤ 9 → length (refusalText n 0) ≤ room
-refusal-fits n h = omega (arith, refusal-few n 0 (omega arith) (omega arith))
+    go (Refused n i) e s = rw (run-refused p t e) (refusal-fits n i s)
 
 pub text-fits : (input : Bytes) → ((i : ℕ) → getD input i 0 ≤ 255) → length (settleText input) ≤ room
 text-fits input bytes =
-    by-cases (decLt 32782 (length input)) (λ l. rw (crowded-text input l) (refusal-fits 3 (omega arith)))
+    by-cases (decLt 32782 (length input)) (λ l. rw (crowded-text input l) (refusal-fits 3 0 (omega arith, zero-le)))
     (λ m.
-    by-cases (decLt (length input) 13) (λ l. rw (short-text input l) (refusal-fits 1 (omega arith)))
+    by-cases (decLt (length input) 13) (λ l. rw (short-text input l) (refusal-fits 1 0 (omega arith, zero-le)))
     (λ n. by-whole (hasWholeRows input) refl (omega arith) (omega arith)))
   where
     by-whole : (b : Bool) → hasWholeRows input ≡ b → 13 ≤ length input → length input ≤ 32782 → length (settleText input) ≤ room
     by-whole true e h l =
         rw (whole-text input h l e)
         (run-fits (profileOf input) (tableOf input) (λ i. rw (getD-drop (profileBytes input) input i 0) (bytes (profileBytes input + i))))
-    by-whole false e h l = rw (ragged-text input h l e) (refusal-fits 2 (omega arith))
+    by-whole false e h l = rw (ragged-text input h l e) (refusal-fits 2 0 (omega arith, zero-le))

@@ -56,10 +56,9 @@ fn profile_bytes(input: &[u8]) -> usize
     ensures { λ r. ⌜ r ≡ profileBytes (now (input .entry)) ⌝ }
 {
     if input.len() % row::WIDTH == PROFILE_WITH_BULB {
-        PROFILE_WITH_BULB
-    } else {
-        PROFILE
+        return PROFILE_WITH_BULB;
     }
+    PROFILE
 }
 
 // Whether an input is a profile and whole rows, by its length.
