@@ -1,6 +1,6 @@
 -- What a tick does to the sixteen bytes of a bulb: document 02, Change 4.
 -- Assumes nothing.
-use mathlib.Core.Bool.{Bool, cond, not, _&&_}
+use mathlib.Core.Bool.{Bool, cond, _&&_}
 use Prim.Native.Nat.{ℕ}
 use lib.ListN.{set}
 use lib.Dec.{eqb}

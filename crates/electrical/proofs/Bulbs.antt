@@ -5,7 +5,6 @@ use Prim.Native.Nat.{ℕ}
 use lib.ListN.{length}
 use Rattle.columns.specs.Column.{Bytes, Column}
 use Rattle.network.specs.Settled as OfNetwork
-use Rattle.blocks.specs.Kind.{CopperBulb}
 use Rattle.blocks.proofs.Bulbs.{withBulb, kind-properties, torch-charges-alike}
 use Rattle.world.specs.Rows.{kindOf}
 use Rattle.traits.specs.Traits.{traits}

@@ -20,7 +20,7 @@ use Rattle.blocks.proofs.Bulbs.{withBulb, length-with-bulb}
 use Rattle.world.specs.Rows.{rows, kindOf}
 use Rattle.layout.specs.Good.{goodProfile, goodRow}
 use Rattle.layout.proofs.Profiles.{good-with-bulb}
-use Rattle.refusals.specs.declared.Checked.the-variants.{Accepted, Refused}
+use Rattle.refusals.specs.declared.Checked.the-variants.{Refused}
 use Rattle.refusals.specs.Check.{isBad, checkRows, checkTable, checkInput, IsAccepted}
 use Rattle.refusals.proofs.Accepted.{accepted-input, accepted-kinds, input-accepted}
 

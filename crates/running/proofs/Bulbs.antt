@@ -29,7 +29,7 @@ use Rattle.devices.specs.Step.{deviceRow, lightRow}
 use Rattle.steps.proofs.Profiles.{same-device}
 use Rattle.updates.specs.State.{sixteen, devicesOf, IsValidState, freshDevices, freshState}
 use Rattle.updates.specs.Tick.{numbersOf, settledOf, withDevices, setDevices, setLights, tick, ticks}
-use Rattle.running.proofs.States.{row-length, length-set-devices, next, device-row, tick-row, tick-devices}
+use Rattle.running.proofs.States.{row-length, next, device-row, tick-row, tick-devices}
 use Rattle.running.proofs.Valid.{valid-state}
 
 -- weak or strong power at row i, of what a state settles to

@@ -1,7 +1,7 @@
 -- What a device's step reads of a profile: the traits of the rows, and of which kinds a repeater reads the block's power.
 -- Assumes nothing.
 use mathlib.Core.Path.{_≡_, refl}
-use mathlib.Core.Bool.{false, cond, not, _&&_}
+use mathlib.Core.Bool.{false, not, _&&_}
 use Prim.Native.Nat.{ℕ}
 use lib.Dec.{eqb}
 use Rattle.columns.specs.Column.{Bytes, Column}
