@@ -284,7 +284,7 @@ mod compared {
     fn calls(oracle: &Oracle) -> Vec<Call> {
         let rows = oracle.rows.len();
         let settle = |lit| Input::Settle { devices: [lit, 0][..rows].to_vec(), limit: LIMIT };
-        let state = oracle.packed(&oracle.started());
+        let state = oracle.started().packed();
         let tick = |ticks| Input::Tick { state: state.clone(), tick: 0, ticks };
         let switch = Input::Switch { state: state.clone(), at: [0; 3], powered: false };
         let fresh = Input::Fresh { state_bytes: STATE_BYTES * rows };
