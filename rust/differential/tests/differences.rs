@@ -8,7 +8,6 @@ use std::path::{Path, PathBuf};
 use differential::differences::{
     Example, Fault, Proved, check, check_risks, examples, named_tests, tests_in,
 };
-use differential::generate::BENCH_PROFILE;
 use differential::probe::probe_shape_of_name;
 use redstone::BENCH_PROFILE_WITH_BULB;
 
@@ -107,7 +106,7 @@ fn stained_glass_by_name_is_plain() {
     #[cfg(not(no_original))]
     {
         use differential::compare::Answers;
-        use differential::generate::Case;
+        use differential::generate::{BENCH_PROFILE, Case};
         use differential::oracle::Oracle;
         use differential::world::{Name, WorldQuery};
 
