@@ -29,11 +29,7 @@ pub struct Case {
 
 impl Case {
     /// A case that no seed gives, of rows in any order.
-    pub fn new(
-        sort: &'static str,
-        profile: impl Into<Vec<u8>>,
-        rows: impl IntoIterator<Item = Row>,
-    ) -> Self {
+    pub fn new(sort: &'static str, profile: impl Into<Vec<u8>>, rows: impl IntoIterator<Item = Row>) -> Self {
         Self { seed: 0, sort, profile: profile.into(), table: redstone::table(rows) }
     }
 

@@ -8,8 +8,8 @@ use std::path::{Path, PathBuf};
 use differential::differences::{
     Example, Fault, Proved, check, check_risks, examples, named_tests, tests_in,
 };
-use differential::generate::BENCH_PROFILE;
 use differential::probe::probe_shape_of_name;
+use redstone::BENCH_PROFILE_WITH_BULB;
 
 const DOCUMENT: &str = "docs/DIFFERENCES.md";
 
@@ -83,10 +83,10 @@ fn every_written_answer_counts() {
 fn every_written_profile_counts() {
     let document = document();
     let mut examples = examples(&document).unwrap_or_else(|fault| panic!("{fault}"));
-    examples.retain(|example| example.table.profile != BENCH_PROFILE);
+    examples.retain(|example| example.table.profile != BENCH_PROFILE_WITH_BULB);
     assert!(!examples.is_empty(), "{DOCUMENT} has no profile");
     for mut example in examples {
-        example.table.profile = BENCH_PROFILE;
+        example.table.profile = BENCH_PROFILE_WITH_BULB.to_vec();
         assert!(check(&example, || Proved::new(example.case())).is_err(), "{}", example.table);
     }
 }
@@ -106,7 +106,7 @@ fn stained_glass_by_name_is_plain() {
     #[cfg(not(no_original))]
     {
         use differential::compare::Answers;
-        use differential::generate::Case;
+        use differential::generate::{BENCH_PROFILE, Case};
         use differential::oracle::Oracle;
         use differential::world::{Name, WorldQuery};
 

@@ -6,7 +6,7 @@ use std::io::{self, ErrorKind, Read};
 use std::path::{Path, PathBuf};
 
 use redstone::{Circuit, MOST_ROWS, PROFILE_BYTES, ROW_BYTES};
-use redstone_text::{Profile, TableReader, lines};
+use redstone_text::{TableReader, lines};
 
 use crate::{Hall, Refused};
 
@@ -51,7 +51,7 @@ pub fn read_profile(file: &OsStr) -> Result<Vec<u8>, Refused> {
     if !is_packed(&profile) {
         let written = profile_of(text(&name, &profile)?).map_err(|error| Refused::text(&name, &error))?;
         let none = "there is no profile in it: write a line as `profile Solid=31 Piston=1`";
-        profile = written.ok_or_else(|| Refused::file(&name, none))?.to_vec();
+        profile = written.ok_or_else(|| Refused::file(&name, none))?;
     }
     // With no rows the profile is all that can be refused, and here it is known whose fault that is.
     Circuit::new(&profile, []).map_err(|refusal| Refused::file(&name, refusal.to_string()))?;
@@ -59,7 +59,7 @@ pub fn read_profile(file: &OsStr) -> Result<Vec<u8>, Refused> {
 }
 
 /// The profile of a text that has a line `profile` and no other.
-fn profile_of(text: &str) -> Result<Option<Profile>, redstone_text::Error> {
+fn profile_of(text: &str) -> Result<Option<Vec<u8>>, redstone_text::Error> {
     let (mut reader, mut is_given) = (TableReader::new(), false);
     for line in lines(text) {
         match line.words().next() {

@@ -122,8 +122,10 @@ struct Readme;
 pub const ROW_BYTES: usize = 32;
 /// Bytes of a row of a state.
 pub const STATE_BYTES: usize = 16;
-/// Bytes of a profile.
+/// Bytes of a profile for tables without bulbs.
 pub const PROFILE_BYTES: usize = 13;
+/// Bytes of a profile for tables that may have bulbs, whose byte is the last. It is good for any table.
+pub const PROFILE_BYTES_WITH_BULB: usize = 14;
 /// The most rows that a table may have.
 pub const MOST_ROWS: usize = 1024;
 /// The largest coordinate; its negative is the smallest.
@@ -132,6 +134,14 @@ pub const FARTHEST: i32 = 1_000_000;
 /// The bench's own profile: solid blocks and lamps conduct, and they, transparent blocks and redstone blocks carry
 /// components. Torches power no block: [`TORCH_CHARGES_ABOVE`] is clear.
 pub const BENCH_PROFILE: [u8; PROFILE_BYTES] = [0, 31, 1, 0, 0, 0, 0, 0, 0, 0, 31, 1, 0];
+
+/// The bench's own profile, and then the bulb's byte.
+///
+/// The byte is 7: components stand on a bulb, and weak and strong power that reach it count. It conducts none of it: no
+/// repeater reads it and it drives no dust, as the Minecraft Wiki's page Copper Bulb has it. What still differs from
+/// that page is in the repository's docs/DIFFERENCES.md.
+pub const BENCH_PROFILE_WITH_BULB: [u8; PROFILE_BYTES_WITH_BULB] =
+    [0, 31, 1, 0, 0, 0, 0, 0, 0, 0, 31, 1, 0, 7];
 
 /// The value of the torch's byte of a profile by which a lit torch gives strong power 15 to the block above it, where
 /// that block receives strong power. The bench profile does not have it; no other kind's byte may.

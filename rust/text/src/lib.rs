@@ -92,4 +92,4 @@ pub use line::{Line, Word, Words, lines};
 pub use nearest::nearest;
 pub use row::{arms_text, position_text, read_row, row_text};
 pub use step::Step;
-pub use table::{Profile, Table, TableReader};
+pub use table::{Table, TableReader};

@@ -17,7 +17,7 @@ pub struct Example<'a> {
 
 impl Example<'_> {
     pub fn case(&self) -> Case {
-        Case::new("docs/DIFFERENCES.md", self.table.profile, self.table.rows.iter().copied())
+        Case::new("docs/DIFFERENCES.md", &self.table.profile[..], self.table.rows.iter().copied())
     }
 }
 

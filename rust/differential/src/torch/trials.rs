@@ -78,7 +78,7 @@ impl Trial {
     /// The table with such a byte for the torch.
     pub fn table(&self, byte: u8) -> Table {
         let table: Table = self.rows.parse().unwrap_or_else(|error| panic!("{}: {error}", self.what));
-        Table { profile: profile(byte), ..table }
+        Table { profile: profile(byte).to_vec(), ..table }
     }
 
     pub fn case(&self, byte: u8) -> Case {

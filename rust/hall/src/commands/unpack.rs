@@ -22,12 +22,7 @@ Packed again it gives the same bytes. Of a hall that is a text already, it leave
 
 fn run(arguments: &Arguments, out: &mut dyn Write) -> Result<Status, Failure> {
     let hall = arguments.hall()?;
-    let profile = hall
-        .fresh
-        .profile()
-        .try_into()
-        .map_err(|_| Failure::sentence("the text form has no place for a profile of this length"))?;
-    let text = Table { profile, rows: hall.rows.clone() }.to_string();
+    let text = Table { profile: hall.fresh.profile().to_vec(), rows: hall.rows.clone() }.to_string();
     deliver(text.as_bytes(), arguments.option(&OUT), &arguments.operands, out)?;
     tell_left_out(slice::from_ref(&hall), "the rows alone are written", out)?;
     Ok(Status::Good)
