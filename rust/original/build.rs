@@ -77,7 +77,11 @@ const PATCHES: [Patch; 18] = [
     // Document 02, Change 4: a bulb is one kind more, after the others, whose properties are those of its byte of the
     // profile. No other line of the original names it, so it is a block like any that has no rule of its own.
     patch(WORLD, "    Piston,\n}", "    Piston,\n    CopperBulb,\n}"),
-    patch(BLOCKS, " air::PROFILE,", " air::PROFILE,\n        BlockKind::CopperBulb => crate::profile::of_kind(13),"),
+    patch(
+        BLOCKS,
+        " air::PROFILE,",
+        " air::PROFILE,\n        BlockKind::CopperBulb => crate::profile::of_kind(13),",
+    ),
     // `capabilities` has to name every kind, and nobody here asks for its answer.
     patch(
         WORLD,

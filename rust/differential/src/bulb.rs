@@ -6,7 +6,7 @@ mod trials;
 use redstone::STATE_BYTES;
 
 pub use misreadings::{MISREADINGS, Misreading};
-pub use trials::{FEEDERS, Feeder, TRIALS, Trial, beside_every_kind};
+pub use trials::{FEEDERS, Feeder, TRIALS, Trial, beside_every_kind, bulbs};
 
 /// What a state has of a bulb.
 #[derive(Clone, Copy, Debug, Default, Eq, PartialEq)]
@@ -76,11 +76,7 @@ pub struct Reading {
 /// Change 4: "Fresh light comes from powered, missing false; fresh byte 9 from settled power. After a tick settles, the
 /// light flips exactly if power is there and byte 9 is 0; then byte 9 is written. A switch changes neither."
 pub const READING: Reading = Reading {
-    fresh: |powered, power| Bulb {
-        light: powered == Some(true),
-        ticks_left: 0,
-        had_power: power.is_there(),
-    },
+    fresh: |powered, power| Bulb { light: powered == Some(true), ticks_left: 0, had_power: power.is_there() },
     tick: |bulb, tick| {
         let power = tick.after.is_there();
         let flips = power && !bulb.had_power;

@@ -39,7 +39,8 @@ mod compared {
         let mut profile = BENCH_PROFILE_WITH_BULB;
         profile[usize::from(row.kind().code())] = bits;
         let without = (row.kind() != Kind::CopperBulb).then_some(&profile[..BULB]);
-        let cases = [&profile[..]].into_iter().chain(without).map(|profile| Case::new("one block", profile, [row]));
+        let cases =
+            [&profile[..]].into_iter().chain(without).map(|profile| Case::new("one block", profile, [row]));
         cases.collect::<Vec<_>>().into_iter()
     }
 

@@ -21,7 +21,8 @@ pub fn bulbs(random: &mut Random) -> Vec<Row> {
         for _ in 0..random.within(1, 2) {
             feed(random, &mut plan, bulb);
         }
-        plan.put(lit_by_chance(random, Row::new(Kind::CopperBulb, bulb).with_shape(any_shape(random))));
+        let bulb = Row::new(Kind::CopperBulb, bulb).with_shape(any_shape(random));
+        plan.put(lit_by_chance(random, bulb));
     }
     plan.rows()
 }
