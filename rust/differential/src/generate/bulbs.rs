@@ -12,13 +12,13 @@ use crate::table::{ABOVE, HORIZONTAL, Position, UNDER, moved};
 pub fn bulbs(random: &mut Random) -> Vec<Row> {
     let at = origin(random, 8);
     let mut plan = Plan::default();
-    let apart = random.within(1, 3);
+    let apart = random.within(1, 4);
     for number in 0..random.within(1, 3) {
         let bulb = moved(at, [apart * number, 0, 0]);
-        if random.percent(60) {
+        if random.percent(50) {
             plan.put(reader(random, bulb));
         }
-        for _ in 0..random.within(1, 2) {
+        for _ in 0..random.pick(&[1, 1, 1, 2]) {
             feed(random, &mut plan, bulb);
         }
         let bulb = Row::new(Kind::CopperBulb, bulb).with_shape(any_shape(random));
@@ -27,38 +27,43 @@ pub fn bulbs(random: &mut Random) -> Vec<Row> {
     plan.rows()
 }
 
-/// Power for the block at a position, each way that there is.
+/// Power for the block at a position, each way that there is. Most of it comes and goes.
 fn feed(random: &mut Random, plan: &mut Plan, block: Position) {
     let side = random.below(HORIZONTAL.len());
     let step = HORIZONTAL[side];
     let (inward, beside) = (Facing::ALL[(side + 2) % 4], moved(block, step));
     let place = |kind| Row::new(kind, beside);
-    match random.below(9) {
-        0 => plan.put(switch(random, beside).with_support(back(step))),
-        1 => plan.put(place(Kind::RedstoneBlock)),
-        2 => {
-            plan.put(place(Kind::Repeater).with_facing(inward).with_delay(random.sometimes(50, any_delay)));
-            plan.put(source(random, moved(beside, step)));
-        }
-        3 => {
-            plan.put(place(Kind::Comparator).with_facing(inward).with_subtract(random.percent(30)));
-            plan.put(source(random, moved(beside, step)));
-        }
+    match random.below(13) {
+        0..3 => plan.put(switch(random, beside).with_support(back(step))),
+        3 => plan.put(place(Kind::RedstoneBlock)),
         4 => {
-            plan.put(dust(random, moved(block, ABOVE)));
-            plan.put(source(random, moved(beside, ABOVE)));
+            plan.put(place(Kind::Repeater).with_facing(inward).with_delay(random.sometimes(50, any_delay)));
+            plan.put(changing(random, moved(beside, step)));
         }
         5 => {
-            plan.put(place(Kind::RedstoneWire).with_arms([Some(Arm::Side); 4]));
-            plan.put(source(random, moved(beside, step)));
+            plan.put(place(Kind::Comparator).with_facing(inward).with_subtract(random.percent(30)));
+            plan.put(changing(random, moved(beside, step)));
         }
-        6 => plan.put(Row::new(Kind::RedstoneTorch, moved(block, UNDER)).with_support(BELOW)),
+        6 => {
+            plan.put(dust(random, moved(block, ABOVE)));
+            plan.put(changing(random, moved(beside, ABOVE)));
+        }
         7 => {
+            plan.put(place(Kind::RedstoneWire).with_arms([Some(Arm::Side); 4]));
+            plan.put(changing(random, moved(beside, step)));
+        }
+        8 => plan.put(Row::new(Kind::RedstoneTorch, moved(block, UNDER)).with_support(BELOW)),
+        9 => {
             plan.put(place(Kind::Solid));
             plan.put(switch(random, moved(beside, ABOVE)).with_support(BELOW));
         }
         _ => put_clock(random, plan, moved(block, [0, 0, -1])),
     }
+}
+
+/// A switch more often than any other source.
+fn changing(random: &mut Random, position: Position) -> Row {
+    if random.percent(70) { switch(random, position) } else { source(random, position) }
 }
 
 fn switch(random: &mut Random, position: Position) -> Row {
@@ -74,8 +79,8 @@ fn lit_by_chance(random: &mut Random, bulb: Row) -> Row {
 pub fn placed(random: &mut Random, mut rows: Vec<Row>) -> Vec<Row> {
     for row in &mut rows {
         let share = match row.kind() {
-            Kind::RedstoneLamp => 50,
-            Kind::Solid => 8,
+            Kind::RedstoneLamp => 60,
+            Kind::Solid => 15,
             _ => 0,
         };
         if random.percent(share) {

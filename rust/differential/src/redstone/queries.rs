@@ -140,12 +140,17 @@ fn switch(random: &mut Random, oracle: &Oracle, state: Vec<u8>) -> Input {
     Input::Switch { state, at: any_position(random, oracle), powered: random.percent(50) }
 }
 
-/// A row's position, or now and then any.
+/// A switch's position as often as any row's, or now and then any.
 pub fn any_position(random: &mut Random, oracle: &Oracle) -> Position {
-    if oracle.rows.is_empty() || random.percent(15) {
+    let is_switch = |row: &Row| matches!(row.kind(), Kind::Lever | Kind::Button | Kind::PressurePlate);
+    let mut rows: Vec<_> = oracle.rows.iter().collect();
+    if random.percent(50) && rows.iter().any(|row| is_switch(row)) {
+        rows.retain(|row| is_switch(row));
+    }
+    if rows.is_empty() || random.percent(15) {
         [(); 3].map(|()| random.pick(&[0, 1, i32::MIN, i32::MAX]))
     } else {
-        oracle.rows[random.below(oracle.rows.len())].position()
+        random.pick(&rows).position()
     }
 }
 

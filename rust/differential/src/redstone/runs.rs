@@ -41,7 +41,7 @@ pub fn steps(oracle: &Oracle) -> Vec<Step> {
     let mut random = Random::new(oracle.case.seed);
     let mut steps = vec![Step::Fresh];
     for _ in 0..if oracle.rows.len() < LARGE { STEPS } else { STEPS_IF_LARGE } {
-        if random.percent(30) {
+        if random.percent(50) {
             steps.push(Step::Switch { at: any_position(&mut random, oracle), powered: random.percent(50) });
         }
         steps.push(Step::Ticks(random.pick(&[0, 1, 1, 1, 1, 1, 2, 3, 8])));
