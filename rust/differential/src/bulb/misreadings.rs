@@ -7,7 +7,7 @@ pub struct Misreading {
     pub reading: Reading,
 }
 
-pub const MISREADINGS: [Misreading; 33] = [
+pub const MISREADINGS: [Misreading; 32] = [
     ticked("the light flips at every tick with power", |bulb, tick| {
         flipped_if(tick.after.is_there(), bulb, tick.after)
     }),
@@ -42,9 +42,6 @@ pub const MISREADINGS: [Misreading; 33] = [
     }),
     ticked("a power of 1 does not count", |bulb, tick| {
         by_power(bulb, tick.after.weak > 1 || tick.after.strong > 1)
-    }),
-    ticked("a power past 15 does not count", |bulb, tick| {
-        by_power(bulb, (1..=15).contains(&tick.after.weak.max(tick.after.strong)))
     }),
     ticked("power counts before the tick settles", |bulb, tick| by_power(bulb, tick.before.is_there())),
     ticked("byte 9 is the power before the tick", |bulb, tick| {
