@@ -146,8 +146,8 @@
 /* The bench's own profile, to initialise an array: Solid and RedstoneLamp 31, Transparent and RedstoneBlock 1. */
 #define REDSTONE_BENCH_PROFILE {0, 31, 1, 0, 0, 0, 0, 0, 0, 0, 31, 1, 0}
 
-/* The same and then CopperBulb 7: components stand on a bulb and power that reaches it counts, but it conducts none of
- * it, as the Minecraft Wiki's page Copper Bulb has it. */
+/* The same and then CopperBulb 7: components stand on a bulb, and power that reaches it counts, but no repeater reads it
+ * and it drives no dust. So the Minecraft Wiki has it, page Copper Bulb: a full block that does not conduct. */
 #define REDSTONE_BENCH_PROFILE_WITH_BULB {0, 31, 1, 0, 0, 0, 0, 0, 0, 0, 31, 1, 0, 7}
 
 #ifdef __cplusplus

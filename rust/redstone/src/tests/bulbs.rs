@@ -1,7 +1,7 @@
 //! What the documentation says of copper bulbs.
 
 use crate::{
-    BENCH_PROFILE, BENCH_PROFILE_WITH_BULB, Circuit, Device, Facing, Kind, PROFILE_BYTES,
+    Arm, BENCH_PROFILE, BENCH_PROFILE_WITH_BULB, Circuit, Device, Facing, Kind, PROFILE_BYTES,
     PROFILE_BYTES_WITH_BULB, Row, Shape,
 };
 
@@ -113,7 +113,7 @@ fn many_ticks_are_as_many_single_ones() {
         Row::new(Kind::Solid, [2, 0, 0]),
         Row::new(Kind::RedstoneTorch, [1, 0, 0]).with_support([1, 0, 0]),
         Row::new(Kind::RedstoneWire, [1, 0, 1]),
-        Row::new(Kind::RedstoneWire, [2, 0, 1]).with_arms([Some(crate::Arm::Side), None, None, None]),
+        Row::new(Kind::RedstoneWire, [2, 0, 1]).with_arms([Some(Arm::Side), None, None, None]),
         Row::new(Kind::Repeater, [0, 0, 1]).with_facing(Facing::North),
         DARK,
     ];
@@ -130,9 +130,8 @@ fn many_ticks_are_as_many_single_ones() {
     assert!(flips > 5, "{flips} flips");
 }
 
-/// Its byte of the bench profile: a bulb takes power and hands none on.
 #[test]
-fn a_bulb_conducts_nothing_by_the_bench_profile() {
+fn a_bulb_with_power_gives_none_to_a_repeater_and_to_dust() {
     let behind = |block: Kind| {
         let circuit = &mut circuit(rows(Row::new(block, BULB), true).into_iter().chain([
             Row::new(Kind::Repeater, [1, 0, 0]).with_facing(Facing::East),
