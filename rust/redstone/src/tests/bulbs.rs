@@ -1,7 +1,7 @@
 //! What the documentation says of copper bulbs.
 
 use crate::{
-    Arm, BENCH_PROFILE, BENCH_PROFILE_WITH_BULB, Circuit, Device, Facing, Kind, PROFILE_BYTES,
+    BENCH_PROFILE, BENCH_PROFILE_WITH_BULB, Circuit, Device, Facing, Kind, PROFILE_BYTES,
     PROFILE_BYTES_WITH_BULB, Row, Shape,
 };
 
@@ -106,21 +106,17 @@ fn a_bulb_that_is_switched_itself_stays_as_it_is() {
     assert_eq!(bulb(&circuit), (true, false));
 }
 
-/// Behind a torch clock, power arrives again and again.
+/// Under the dust of a torch clock, to which power comes again and again.
 #[test]
 fn many_ticks_are_as_many_single_ones() {
-    let clock = [
-        Row::new(Kind::Solid, [2, 0, 0]),
-        Row::new(Kind::RedstoneTorch, [1, 0, 0]).with_support([1, 0, 0]),
-        Row::new(Kind::RedstoneWire, [1, 0, 1]),
-        Row::new(Kind::RedstoneWire, [2, 0, 1]).with_arms([Some(Arm::Side), None, None, None]),
-        Row::new(Kind::Repeater, [0, 0, 1]).with_facing(Facing::North),
-        DARK,
-    ];
-    let mut single = circuit(clock);
+    let solid = [[-1, 1, -1], [-1, 1, 0]].map(|position| Row::new(Kind::Solid, position));
+    let dust = [[0, 1, 0], [-1, 2, -1], [-1, 2, 0]].map(|position| Row::new(Kind::RedstoneWire, position));
+    let torch = Row::new(Kind::RedstoneTorch, [0, 1, -1]).with_support([-1, 0, 0]);
+    let clock = [DARK, torch].into_iter().chain(solid).chain(dust);
+    let mut single = circuit(clock.clone());
     let mut flips = 0;
     for ticks in 0..40 {
-        let mut many = circuit(clock);
+        let mut many = circuit(clock.clone());
         tick(&mut many, ticks);
         assert_eq!(many.state(), single.state(), "{ticks} ticks");
         let before = bulb(&single).0;

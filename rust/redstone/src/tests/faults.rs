@@ -200,7 +200,7 @@ fn reasons_agree_with_the_answers_on_every_length() {
 fn reasons_agree_with_the_answers_on_two_faults() {
     let changes: [fn(&mut Input); 16] = [
         |input| input.profile[0] = 1,
-        |input| input.profile.push(0),
+        |input| input.profile.resize(20, 0),
         |input| input.profile.truncate(PROFILE_BYTES),
         |input| input.table.push(0),
         |input| input.table.resize(ROW_BYTES * (MOST_ROWS + 1), 0),
