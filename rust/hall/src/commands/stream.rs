@@ -40,7 +40,7 @@ fn stream(halls: &[Hall]) -> Result<Vec<u8>, Refused> {
     for Hall { name, fresh, rows, .. } in halls {
         if let Some(bulb) = rows.iter().find(|row| row.kind() == Kind::CopperBulb) {
             let bulb = block_name(bulb);
-            let message = format!("{bulb} is in it, and `month` has no bulbs: leave this hall out");
+            let message = format!("{bulb} is in it, and `month` takes no bulbs: leave this hall out");
             return Err(Refused::file(name, message));
         }
         if !fresh.profile().starts_with(&bytes[..PROFILE_BYTES]) {

@@ -71,7 +71,10 @@ const RULES: &[Rule] = &[
     Rule {
         number: 2,
         sentence: "a redstone block beside it powers it here, and no block in the game",
-        holds: |view, row| view.kind(row) != Kind::RedstoneLamp && view.powered_by_redstone_block(row),
+        holds: |view, row| {
+            let is_light = matches!(view.kind(row), Kind::RedstoneLamp | Kind::CopperBulb);
+            !is_light && view.powered_by_redstone_block(row)
+        },
     },
     Rule {
         number: 3,
@@ -215,8 +218,8 @@ const RULES: &[Rule] = &[
     Rule {
         number: 22,
         sentence: "a block is over it, and takes its power in the game, not here: add 32 to RedstoneTorch in the profile, \
-                   as in `profile Solid=31 Transparent=1 RedstoneLamp=31 RedstoneBlock=1 RedstoneTorch=32` before the \
-                   rows, or lead dust from the torch",
+                   as in `profile Solid=31 Transparent=1 RedstoneLamp=31 RedstoneBlock=1 CopperBulb=7 RedstoneTorch=32` \
+                   before the rows, or lead dust from the torch",
         holds: |view, row| {
             view.kind(row) == Kind::RedstoneTorch
                 && !view.torches_charge_above()

@@ -4,7 +4,7 @@ use std::collections::{BTreeMap, BTreeSet};
 use std::fs;
 
 use hall::{Hall, Hint, Run, hints};
-use redstone::{BENCH_PROFILE, Kind, TORCH_CHARGES_ABOVE};
+use redstone::{BENCH_PROFILE_WITH_BULB, Kind, TORCH_CHARGES_ABOVE};
 
 use crate::support::{hall, root, samples};
 
@@ -242,12 +242,12 @@ fn line_of_hint() -> &'static str {
     hint.sentence.split('`').nth(1).expect("a line")
 }
 
-/// It is the bench profile with the value for the torch. README.md has it, too, and no other.
+/// It is the profile of a hall without that line, with the value for the torch. README.md has it, too, and no other.
 #[test]
 fn who_writes_the_line_of_the_hint_has_torches_that_charge_the_block_above() {
     let text = charging("0,0,0 RedstoneTorch\n0,1,0 Solid\n0,2,0 RedstoneWire\n");
     let hall = Hall::from_text("a.hall", &text, None).expect("a hall");
-    let mut profile = BENCH_PROFILE;
+    let mut profile = BENCH_PROFILE_WITH_BULB;
     profile[usize::from(Kind::RedstoneTorch.code())] |= TORCH_CHARGES_ABOVE;
     assert_eq!(hall.fresh.profile(), profile);
     assert_eq!(hall.fresh.settled().strong(), [0, 15, 0]);

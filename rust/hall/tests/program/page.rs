@@ -130,7 +130,7 @@ fn assert_page(name: &str) {
         let given: Vec<_> = own
             .map(|fields| match fields[4].as_str() {
                 "RedstoneLamp" | "CopperBulb" => fields[10].clone(),
-                "Lever" | "PressurePlate" => fields[5].clone(),
+                "Lever" | "Button" | "PressurePlate" => fields[5].clone(),
                 _ => fields[8].clone(),
             })
             .collect();
