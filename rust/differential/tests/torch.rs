@@ -4,14 +4,14 @@ use std::io::Write;
 
 use differential::compare::{compare, run};
 use differential::differences::{Example, Fault, Proved, check, examples};
-use differential::generate::{self, BENCH_PROFILE, Case, TORCH};
+use differential::generate::{self, BENCH_PROFILE_WITH_BULB, Case, TORCH};
 use differential::probe::{Probe, probe_check};
 use differential::suite::{assert_compared, at_least_good_cases};
 use differential::table;
 use differential::torch::{
     BYTES, MISREADINGS, Misreading, Pair, Reading, TRIALS, Trial, charge, pairs, profile, queries, torches,
 };
-use redstone::{Circuit, Kind, PROFILE_BYTES, Row, Settled, Shape};
+use redstone::{Circuit, Kind, PROFILE_BYTES, PROFILE_BYTES_WITH_BULB, Row, Settled, Shape};
 
 const LIMIT: u32 = 128;
 const GENERATED_TABLES: u64 = 20_000;
@@ -33,13 +33,14 @@ fn settled(case: &Case, devices: &[u8]) -> Settled {
 
 /// Every table of the trials, by every byte.
 fn trial_cases() -> impl Iterator<Item = Case> {
-    TRIALS.iter().flat_map(|trial| BYTES.map(|byte| trial.case(byte)))
+    TRIALS.iter().flat_map(|trial| BYTES.into_iter().flat_map(|byte| trial.cases(byte)))
 }
 
 /// A trial by bytes that change nothing but the value, each with the answers that are written.
-fn documents(trial: &Trial) -> [String; 4] {
-    let document = |(byte, run)| format!("```table\n{}```\n```run\n{run}```\n", trial.table(byte));
-    [(0, trial.without), (1, trial.without), (32, trial.with), (33, trial.with)].map(document)
+fn documents(trial: &Trial) -> impl Iterator<Item = String> {
+    let runs = [(0, trial.without), (1, trial.without), (32, trial.with), (33, trial.with)];
+    let tables = runs.into_iter().flat_map(|(byte, run)| trial.tables(byte).map(|table| (table, run)));
+    tables.map(|(table, run)| format!("```table\n{table}```\n```run\n{run}```\n"))
 }
 
 fn check_document(document: &str, check: impl Fn(&Example) -> Result<(), Fault>) -> Result<(), Fault> {
@@ -69,9 +70,9 @@ fn trials_answer_as_is_written() {
 fn exchanged_answers_are_reported() {
     let mut same = 0;
     for trial in &TRIALS {
-        let exchanged = documents(&Trial { with: trial.without, without: trial.with, ..*trial });
+        let exchanged = Trial { with: trial.without, without: trial.with, ..*trial };
         let is_same = trial.with == trial.without;
-        for document in exchanged {
+        for document in documents(&exchanged) {
             assert_eq!(
                 check_document(&document, check_proved).is_ok(),
                 is_same,
@@ -84,11 +85,12 @@ fn exchanged_answers_are_reported() {
     assert_eq!(same, 4);
 }
 
-/// Under the bench profile plain solid blocks and lamps do, and double slabs of every kind; a torch does by value 4 of its
-/// byte.
+/// Under the bench profile plain solid blocks, lamps and bulbs do, and double slabs of every kind; a torch does by value 4
+/// of its byte.
 fn receives_strong(over: Row, byte: u8) -> bool {
     match (over.shape(), over.kind()) {
-        (Shape::DoubleSlab, _) | (Shape::Plain, Kind::Solid | Kind::RedstoneLamp) => true,
+        (Shape::DoubleSlab, _) => true,
+        (Shape::Plain, Kind::Solid | Kind::RedstoneLamp | Kind::CopperBulb) => true,
         (Shape::Plain, Kind::RedstoneTorch) => [31, 36, 63].contains(&byte),
         _ => false,
     }
@@ -119,9 +121,9 @@ fn every_torch_under_every_block_is_as_by_hand() {
         tables += 1;
     }
     let torches = torches().count();
-    assert_eq!([torches, tables], [7 * 7 * 3, torches * (12 * 7 + 1) * 6]);
-    // Fourteen blocks receive strong power, and by bytes 36 and 63 a torch, too. Of three fresh torches two are lit.
-    let lit = torches * (2 * 14 + 2 * 15);
+    assert_eq!([torches, tables], [7 * 7 * 3, torches * (13 * 7 + 1) * 6]);
+    // Sixteen blocks receive strong power, and by bytes 36 and 63 a torch, too. Of three fresh torches two are lit.
+    let lit = torches * (2 * 16 + 2 * 17);
     assert_eq!(charged, [lit, lit / 3 * 2, 0]);
     print(&format!("torch, every pair by hand: {tables} tables, a block charged in {charged:?}"));
 }
@@ -165,24 +167,28 @@ fn no_block_is_charged_but_the_one_above() {
     assert_eq!(charged, torches().count());
 }
 
+/// By profiles of 13 bytes and of 14.
 #[test]
 fn the_torchs_byte_alone_reaches_63() {
-    let mut refused = [0; PROFILE_BYTES];
-    for (kind, refused) in refused.iter_mut().enumerate() {
-        for byte in 0..=u8::MAX {
-            let mut profile = BENCH_PROFILE;
-            profile[kind] = byte;
-            let most = match kind {
-                0 => 0,
-                TORCH => 63,
-                _ => 31,
-            };
-            let answer = probe_check(&profile, &[]);
-            assert_eq!(answer, if byte <= most { 0 } else { 65_536 }, "{profile:?}");
-            *refused += usize::from(answer > 0);
+    for bytes in [PROFILE_BYTES, PROFILE_BYTES_WITH_BULB] {
+        let mut refused = vec![0; bytes];
+        for (kind, refused) in refused.iter_mut().enumerate() {
+            for byte in 0..=u8::MAX {
+                let mut profile = BENCH_PROFILE_WITH_BULB;
+                profile[kind] = byte;
+                let most = match kind {
+                    0 => 0,
+                    TORCH => 63,
+                    _ => 31,
+                };
+                let answer = probe_check(&profile[..bytes], &[]);
+                assert_eq!(answer, if byte <= most { 0 } else { 65_536 }, "{profile:?}");
+                *refused += usize::from(answer > 0);
+            }
         }
+        let expected = [255, 224, 224, 224, 192, 224, 224, 224, 224, 224, 224, 224, 224, 224];
+        assert_eq!(refused, expected[..bytes]);
     }
-    assert_eq!(refused, [255, 224, 224, 224, 192, 224, 224, 224, 224, 224, 224, 224, 224]);
 }
 
 /// The strong columns of generated tables, and how many blocks of them the value charges.
@@ -276,7 +282,7 @@ mod compared {
             compare(steps(&oracle.rows), &OriginalRun::new(&oracle), &ProvedRun::new(case, false), tally)
         });
         let tally = assert_compared("torch, a hundred ticks", compared);
-        let tables = (TRIALS.len() * BYTES.len()) as u64;
+        let tables = (2 * TRIALS.len() * BYTES.len()) as u64;
         assert_eq!([tally.tables.values().sum(), tally.comparisons["tick"]], [tables, 100 * tables]);
     }
 
@@ -284,7 +290,7 @@ mod compared {
     fn calls(oracle: &Oracle) -> Vec<Call> {
         let rows = oracle.rows.len();
         let settle = |lit| Input::Settle { devices: [lit, 0][..rows].to_vec(), limit: LIMIT };
-        let state = oracle.packed(&oracle.started());
+        let state = oracle.started().packed();
         let tick = |ticks| Input::Tick { state: state.clone(), tick: 0, ticks };
         let switch = Input::Switch { state: state.clone(), at: [0; 3], powered: false };
         let fresh = Input::Fresh { state_bytes: STATE_BYTES * rows };

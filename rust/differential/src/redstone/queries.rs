@@ -87,20 +87,19 @@ pub fn fresh_devices(oracle: &Oracle) -> Vec<u8> {
 
 /// A state that a run comes to while switches are thrown: at its end they may stand otherwise than in the table.
 fn reached_state(random: &mut Random, oracle: &Oracle) -> Vec<u8> {
-    let mut started = oracle.started();
-    let simulator = started.get_mut();
+    let mut simulator = oracle.started();
     let ticks = if oracle.rows.len() >= LARGE { 1 } else { random.pick(&[0, 1, 2, 4, 8, 35]) };
     for _ in 0..ticks {
         if random.percent(30) {
             let at = any_position(random, oracle);
-            simulator.set_powered(pos(at), random.percent(50)).expect(SETTLES);
+            simulator.switch(at, random.percent(50));
         }
-        simulator.advance_tick().expect(SETTLES);
+        simulator.tick(1);
     }
-    oracle.packed(&started)
+    simulator.packed()
 }
 
-/// Any state that document 01 allows, whether a run comes to it or not.
+/// Any state that documents 01 and 02 allow, whether a run comes to it or not.
 fn any_state(random: &mut Random, rows: &[Row]) -> Vec<u8> {
     rows.iter().flat_map(|row| any_row_state(random, row)).collect()
 }
@@ -121,6 +120,10 @@ fn any_row_state(random: &mut Random, row: &Row) -> [u8; STATE_BYTES] {
         Kind::RedstoneLamp => {
             state[2] = random.byte_below(2);
             state[3] = random.byte_below(3) * state[2];
+        }
+        Kind::CopperBulb => {
+            state[2] = random.byte_below(2);
+            state[9] = random.byte_below(2);
         }
         _ => {}
     }
