@@ -223,6 +223,38 @@ fn what_the_game_does_too_gets_no_hint() {
             &[40, 41],
             None,
         ),
+        // A redstone block powers a bulb, too, and a bulb is no block that gives power on or cuts dust.
+        ("0,0,0 RedstoneBlock\n1,0,0 CopperBulb\n2,0,0 RedstoneWire\n", &[2, 3, 18], None),
+        ("0,0,0 CopperBulb\n0,1,0 Lever support=0,-1,0 powered=true\n1,0,0 RedstoneWire\n", &[18], None),
+        (
+            "-1,0,0 RedstoneLamp\n0,0,0 CopperBulb\n0,1,0 RedstoneWire\n1,1,0 Lever powered=true\n",
+            &[19],
+            None,
+        ),
+        ("0,0,0 RedstoneWire\n0,1,0 CopperBulb\n1,0,0 Solid\n1,1,0 RedstoneWire\n", &[9], None),
+        // A strongly powered block beside it powers a bulb as a device, and a block beside a strongly powered bulb not.
+        (
+            "0,0,0 Solid\n0,1,0 Lever support=0,-1,0 powered=true\n1,0,0 CopperBulb\n2,0,0 Comparator facing=East\n",
+            &[4],
+            None,
+        ),
+        (
+            "0,0,0 CopperBulb\n0,1,0 Lever support=0,-1,0 powered=true\n1,0,0 Solid\n2,0,0 Repeater facing=East\n",
+            &[2],
+            Some(4),
+        ),
+        // A bulb takes what a lamp takes.
+        ("0,0,0 Lever powered=true\n1,0,0 RedstoneWire\n2,0,0 CopperBulb\n", &[], Some(16)),
+        ("0,0,0 RedstoneBlock\n0,1,0 RedstoneWire\n1,1,0 CopperBulb\n", &[], Some(17)),
+        ("-1,0,0 CopperBulb\n0,0,0 Solid\n0,1,0 RedstoneWire\n1,1,0 Lever powered=true\n", &[], Some(19)),
+        ("0,0,0 Lever support=0,-1,0 powered=true\n1,0,0 CopperBulb\n", &[], Some(20)),
+        ("0,0,0 RedstoneTorch\n0,1,0 CopperBulb\n", &[], Some(22)),
+        ("0,0,0 RedstoneTorch\n1,0,0 CopperBulb\n", &[22], Some(23)),
+        (
+            "0,0,0 Comparator facing=East\n0,0,1 CopperBulb\n0,1,1 Lever support=0,-1,0 powered=true\n",
+            &[],
+            Some(24),
+        ),
     ] {
         let found = numbers(table);
         assert!(none.iter().all(|number| !found.contains(number)), "{found:?}:\n{table}");
