@@ -63,11 +63,11 @@ pub enum Device {
         /// How many ticks a lit lamp without power stays lit, from 2 down; 0 with power.
         ticks_left: u8,
     },
-    /// A copper bulb. A tick flips its light where it has power after it and had none before.
+    /// A copper bulb. A tick that leaves it with power flips its light, unless it had power before.
     Bulb {
         /// Whether it is lit.
         lit: bool,
-        /// Whether it had power after the last tick.
+        /// Whether it had power after the last tick; in a fresh state, whether it has power.
         had_power: bool,
     },
 }

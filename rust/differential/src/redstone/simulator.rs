@@ -88,6 +88,11 @@ impl<'a> Simulator<'a> {
         pack(self.rows, &self.original.get().parts(), &self.bulbs)
     }
 
+    /// The original's own, of which the bulbs are told nothing.
+    pub fn original(&mut self) -> &mut RedstoneTickSimulator {
+        self.original.get_mut()
+    }
+
     pub fn world(&self) -> &World {
         self.original.get().world()
     }

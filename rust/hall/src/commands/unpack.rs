@@ -14,8 +14,9 @@ pub const COMMAND: Command = Command {
     operands: "FILE",
     summary: "writes a hall in the text form",
     help: "\
-One line for each row, in the table's order, and before them `blocks=` and, where it is not the bench profile, `profile`.
-Packed again it gives the same bytes. Of a hall that is a text already, it leaves out comments, switches and expectations.",
+One line for each row, in the table's order, and before them `blocks=` and, where it is not the bench profile with the
+bulb's byte, `profile`. Packed again it gives the same bytes. Of a hall that is a text already, it leaves out comments,
+switches and expectations.",
     options: &[&PROFILE, &OUT],
     run,
 };

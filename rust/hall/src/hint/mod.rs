@@ -71,7 +71,7 @@ const RULES: &[Rule] = &[
     Rule {
         number: 2,
         sentence: "a redstone block beside it powers it here, and no block in the game",
-        holds: |view, row| view.kind(row) != Kind::RedstoneLamp && view.powered_by_redstone_block(row),
+        holds: |view, row| !view.is_light(row) && view.powered_by_redstone_block(row),
     },
     Rule {
         number: 3,
@@ -87,6 +87,7 @@ const RULES: &[Rule] = &[
         sentence: "a strongly powered block beside it powers it here, and no block in the game",
         holds: |view, row| {
             view.takes_power(row)
+                && !view.is_bulb(row)
                 && view.around(row).any(|other| view.is_device_that_reads(other, row))
                 && view.ever(|frame| {
                     let strong_beside = view.around(row).any(|other| frame.figures(other).strong > 0);
@@ -187,21 +188,24 @@ const RULES: &[Rule] = &[
                 |frame: &Frame, block: usize| frame.figures(row).signal < frame.figures(block).strong.min(15);
             view.kind(row) == Kind::RedstoneWire
                 && view.beside(row).any(|block| {
-                    // What a redstone block powers has no power in the game (2).
-                    !view.powered_by_redstone_block(block) && view.ever(|frame| is_lower(frame, block))
+                    // What a redstone block powers has no power in the game (2), and a bulb gives none on.
+                    let gives = !view.powered_by_redstone_block(block) && !view.is_bulb(block);
+                    gives && view.ever(|frame| is_lower(frame, block))
                 })
         },
     },
     Rule {
         number: 19,
-        sentence: "a weakly powered block is beside it, and lights it in the game, not here",
-        holds: |view, row| view.is_dark_lamp_while(row, |frame, block| view.is_powered_by_dust(frame, block)),
+        sentence: "a weakly powered block is beside it, and powers it in the game, not here",
+        holds: |view, row| {
+            view.is_powerless_light_while(row, |frame, block| view.is_powered_by_dust(frame, block))
+        },
     },
     Rule {
         number: 20,
-        sentence: "a lever, button or plate is beside it, and lights it in the game, not here",
+        sentence: "a lever, button or plate is beside it, and powers it in the game, not here",
         holds: |view, row| {
-            view.is_dark_lamp_while(row, |frame, block| {
+            view.is_powerless_light_while(row, |frame, block| {
                 is_switch(view.kind(block)) && frame.figures(block).signal > 0
             })
         },
@@ -215,8 +219,8 @@ const RULES: &[Rule] = &[
     Rule {
         number: 22,
         sentence: "a block is over it, and takes its power in the game, not here: add 32 to RedstoneTorch in the profile, \
-                   as in `profile Solid=31 Transparent=1 RedstoneLamp=31 RedstoneBlock=1 RedstoneTorch=32` before the \
-                   rows, or lead dust from the torch",
+                   as in `profile Solid=31 Transparent=1 RedstoneLamp=31 RedstoneBlock=1 CopperBulb=7 RedstoneTorch=32` \
+                   before the rows, or lead dust from the torch",
         holds: |view, row| {
             view.kind(row) == Kind::RedstoneTorch
                 && !view.torches_charge_above()
@@ -228,9 +232,9 @@ const RULES: &[Rule] = &[
     },
     Rule {
         number: 23,
-        sentence: "a lit torch is beside it, and lights it in the game, not here: lead dust from the torch",
+        sentence: "a lit torch is beside it, and powers it in the game, not here: lead dust from the torch",
         holds: |view, row| {
-            view.is_dark_lamp_while(row, |frame, block| {
+            view.is_powerless_light_while(row, |frame, block| {
                 let is_lit = matches!(frame.devices[block], Device::Torch { lit: true, .. });
                 is_lit && !view.stands_on(block, row)
             })

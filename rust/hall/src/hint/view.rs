@@ -71,6 +71,15 @@ impl<'a> View<'a> {
         self.row(row).kind()
     }
 
+    pub fn is_bulb(&self, row: usize) -> bool {
+        self.kind(row) == Kind::CopperBulb
+    }
+
+    /// Whether a row is a lamp or a bulb, which the game powers as devices and not as blocks alone.
+    pub fn is_light(&self, row: usize) -> bool {
+        self.kind(row) == Kind::RedstoneLamp || self.is_bulb(row)
+    }
+
     /// The row at a side of a row.
     pub fn at(&self, row: usize, side: Facing) -> Option<usize> {
         self.around[row][usize::from(side.code()) - 1]
@@ -187,13 +196,13 @@ impl<'a> View<'a> {
         self.kind(row) == Kind::RedstoneWire && frame.figures(row).signal > 0
     }
 
-    /// Whether a block has weak power alone, and dust gives it: dust that lies on it, or for want of a strongly powered
-    /// block beside it, which would give it here and not in the game (4).
+    /// Whether a block that gives power on in the game has weak power alone, and dust gives it: dust that lies on it, or
+    /// for want of a strongly powered block beside it, which would give it here and not in the game (4).
     pub fn is_powered_by_dust(&self, frame: &Frame, block: usize) -> bool {
         let figures = frame.figures(block);
         let over = self.at(block, Facing::Up).is_some_and(|dust| self.is_dust_with_power(frame, dust));
         let strong_beside = self.around(block).any(|other| frame.figures(other).strong > 0);
-        figures.weak > 0 && figures.strong == 0 && (over || !strong_beside)
+        !self.is_bulb(block) && figures.weak > 0 && figures.strong == 0 && (over || !strong_beside)
     }
 
     /// Whether a repeater or comparator beside a row is ever on and does not point at it.
@@ -229,10 +238,10 @@ impl<'a> View<'a> {
             && self.ever_gives(dust)
     }
 
-    /// Whether a lamp has no power at a tick at which something holds of a block at one of its sides.
-    pub fn is_dark_lamp_while(&self, row: usize, holds: impl Fn(&Frame, usize) -> bool) -> bool {
+    /// Whether a lamp or bulb has no power at a tick at which something holds of a block at one of its sides.
+    pub fn is_powerless_light_while(&self, row: usize, holds: impl Fn(&Frame, usize) -> bool) -> bool {
         let has_none = |frame: &Frame| frame.figures(row).weak == 0 && frame.figures(row).strong == 0;
-        self.kind(row) == Kind::RedstoneLamp
+        self.is_light(row)
             && self.ever(|frame| has_none(frame) && self.around(row).any(|other| holds(frame, other)))
     }
 

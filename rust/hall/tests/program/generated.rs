@@ -112,7 +112,8 @@ fn as_library_gives(case: &Case, ticks: u32, switches: &[(u32, [i32; 3], bool)])
             let [x, y, z] = row.position();
             let [signal, weak, strong] = [0, 1, 2].map(|column: usize| columns[column][number]);
             text += &format!("{tick},{x},{y},{z},{},{signal},{weak},{strong},", row.kind());
-            text += &format!("{},{},{},{},{}\n", bytes[0], bytes[1], bytes[2], bytes[3], bytes[8]);
+            let shown = [0, 1, 2, 3, 8, 9].map(|at: usize| bytes[at].to_string());
+            text += &format!("{}\n", shown.join(","));
         }
     }
     text
@@ -155,6 +156,7 @@ fn expectations(line: &str, is_right: bool) -> String {
         "Repeater" => all.push(("repeater", word(8, ["off", "on"]))),
         "Comparator" => all.push(("comparator", level(8))),
         "RedstoneLamp" => all.push(("lamp", word(10, ["dark", "lit"]))),
+        "CopperBulb" => all.push(("bulb", word(10, ["dark", "lit"]))),
         "RedstoneTorch" => {
             all.extend([("torch", word(8, ["out", "lit"])), ("candidate", word(12, ["no", "yes"]))]);
         }
@@ -207,7 +209,7 @@ fn what_repeats_goes_on_so() {
         assert_eq!(differs, None, "from {from}, {ticks} ticks\n{case}");
         let deciding = |tick: usize| -> Vec<_> {
             let states = long.frames[tick].devices.iter().map(Device::bytes);
-            states.map(|state| [state[0], state[1], state[2], state[3]]).collect()
+            states.map(|state| [state[0], state[1], state[2], state[3], state[9]]).collect()
         };
         assert_eq!(deciding(from), deciding(from + ticks), "from {from}, {ticks} ticks\n{case}");
         if let Some(earlier) = from.checked_sub(1) {

@@ -4,7 +4,7 @@ use std::collections::{BTreeMap, BTreeSet};
 use std::fs;
 
 use hall::{Hall, Hint, Run, hints};
-use redstone::{BENCH_PROFILE, Kind, TORCH_CHARGES_ABOVE};
+use redstone::{BENCH_PROFILE_WITH_BULB, Kind, TORCH_CHARGES_ABOVE};
 
 use crate::support::{hall, root, samples};
 
@@ -223,6 +223,38 @@ fn what_the_game_does_too_gets_no_hint() {
             &[40, 41],
             None,
         ),
+        // A redstone block powers a bulb, too, and a bulb is no block that gives power on or cuts dust.
+        ("0,0,0 RedstoneBlock\n1,0,0 CopperBulb\n2,0,0 RedstoneWire\n", &[2, 3, 18], None),
+        ("0,0,0 CopperBulb\n0,1,0 Lever support=0,-1,0 powered=true\n1,0,0 RedstoneWire\n", &[18], None),
+        (
+            "-1,0,0 RedstoneLamp\n0,0,0 CopperBulb\n0,1,0 RedstoneWire\n1,1,0 Lever powered=true\n",
+            &[19],
+            None,
+        ),
+        ("0,0,0 RedstoneWire\n0,1,0 CopperBulb\n1,0,0 Solid\n1,1,0 RedstoneWire\n", &[9], None),
+        // A strongly powered block beside it powers a bulb as a device, and a block beside a strongly powered bulb not.
+        (
+            "0,0,0 Solid\n0,1,0 Lever support=0,-1,0 powered=true\n1,0,0 CopperBulb\n2,0,0 Comparator facing=East\n",
+            &[4],
+            None,
+        ),
+        (
+            "0,0,0 CopperBulb\n0,1,0 Lever support=0,-1,0 powered=true\n1,0,0 Solid\n2,0,0 Repeater facing=East\n",
+            &[2],
+            Some(4),
+        ),
+        // A bulb takes what a lamp takes.
+        ("0,0,0 Lever powered=true\n1,0,0 RedstoneWire\n2,0,0 CopperBulb\n", &[], Some(16)),
+        ("0,0,0 RedstoneBlock\n0,1,0 RedstoneWire\n1,1,0 CopperBulb\n", &[], Some(17)),
+        ("-1,0,0 CopperBulb\n0,0,0 Solid\n0,1,0 RedstoneWire\n1,1,0 Lever powered=true\n", &[], Some(19)),
+        ("0,0,0 Lever support=0,-1,0 powered=true\n1,0,0 CopperBulb\n", &[], Some(20)),
+        ("0,0,0 RedstoneTorch\n0,1,0 CopperBulb\n", &[], Some(22)),
+        ("0,0,0 RedstoneTorch\n1,0,0 CopperBulb\n", &[22], Some(23)),
+        (
+            "0,0,0 Comparator facing=East\n0,0,1 CopperBulb\n0,1,1 Lever support=0,-1,0 powered=true\n",
+            &[],
+            Some(24),
+        ),
     ] {
         let found = numbers(table);
         assert!(none.iter().all(|number| !found.contains(number)), "{found:?}:\n{table}");
@@ -242,12 +274,12 @@ fn line_of_hint() -> &'static str {
     hint.sentence.split('`').nth(1).expect("a line")
 }
 
-/// It is the bench profile with the value for the torch. README.md has it, too, and no other.
+/// It is the profile of a hall without that line, with the value for the torch. README.md has it, too, and no other.
 #[test]
 fn who_writes_the_line_of_the_hint_has_torches_that_charge_the_block_above() {
     let text = charging("0,0,0 RedstoneTorch\n0,1,0 Solid\n0,2,0 RedstoneWire\n");
     let hall = Hall::from_text("a.hall", &text, None).expect("a hall");
-    let mut profile = BENCH_PROFILE;
+    let mut profile = BENCH_PROFILE_WITH_BULB;
     profile[usize::from(Kind::RedstoneTorch.code())] |= TORCH_CHARGES_ABOVE;
     assert_eq!(hall.fresh.profile(), profile);
     assert_eq!(hall.fresh.settled().strong(), [0, 15, 0]);
