@@ -227,7 +227,7 @@ const FAULTS_WHEN_SETTLED: [Change; 26] = [
     ("row=0,0,0,0,0,0\n```", "row=0,0,0,0,0,0\n"),
 ];
 
-const FAULTS_IN_A_PROFILE: [Change; 9] = [
+const FAULTS_IN_A_PROFILE: [Change; 10] = [
     ("profile Solid=4 RedstoneTorch=32\n", ""),
     ("profile Solid=4 RedstoneTorch=32", "profile RedstoneTorch=32 Solid=4"),
     ("profile Solid=4 RedstoneTorch=32", "profile=0,4,0,0,32"),
@@ -237,6 +237,7 @@ const FAULTS_IN_A_PROFILE: [Change; 9] = [
     ),
     ("RedstoneTorch=32", "RedstoneTorch=31"),
     ("RedstoneTorch=32", "RedstoneTorch=64"),
+    ("RedstoneTorch=32", "RedstoneTorch=32 CopperBulb=32"),
     ("RedstoneTorch=32", "Lever=32"),
     ("RedstoneTorch=32", "Torch=32"),
     ("Solid=4 ", ""),
