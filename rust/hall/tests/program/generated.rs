@@ -169,7 +169,7 @@ fn expectations(line: &str, is_right: bool) -> String {
 
 #[test]
 fn each_expectation_is_about_its_figure() {
-    let mut expected = 0;
+    let (mut expected, mut of_bulbs) = (0, 0);
     for case in cases(120).filter(|case| (1..=100).contains(&case.rows())) {
         let figures = as_library_gives(&case, 9, &[]);
         let rows = hall_with(&["unpack", "-"], &[&case.profile[..], &case.table].concat());
@@ -184,9 +184,10 @@ fn each_expectation_is_about_its_figure() {
             let line = done.text().lines().next().unwrap_or_default();
             assert_eq!(line.split(';').next(), Some(head.as_str()), "{case}");
             expected += number;
+            of_bulbs += lines.lines().filter(|line| line.contains(" bulb ")).count();
         }
     }
-    assert!(expected > 100_000, "only {expected} expectations");
+    assert!(expected > 100_000 && of_bulbs > 1000, "only {expected} expectations, {of_bulbs} of bulbs");
 }
 
 /// What a run says of the ticks to come holds of as many again, and of no earlier tick.
