@@ -260,13 +260,19 @@ fn what_the_game_does_too_gets_no_hint() {
             Some(24),
         ),
         // A comparator with a bulb at its front; a torch on a bulb without power; and a bulb that dust alone powers, or
-        // that stands beside a lamp with strong power of its own.
+        // that stands beside a lamp with strong power of its own, or with a strongly powered block at its other side.
         ("0,0,0 Comparator facing=East\n1,0,0 CopperBulb\n", &[57], None),
         ("0,0,0 CopperBulb\n0,1,0 RedstoneTorch support=0,-1,0\n", &[58], None),
         ("0,0,0 CopperBulb\n0,1,0 RedstoneWire\n1,0,0 RedstoneLamp\n0,1,1 Lever powered=true\n", &[58], None),
         (
             "0,0,0 CopperBulb\n0,1,0 Lever support=0,-1,0 powered=true\n1,0,0 RedstoneLamp\n\
              1,1,0 Lever support=0,-1,0 powered=true\n",
+            &[58],
+            None,
+        ),
+        (
+            "0,0,0 CopperBulb\n0,1,0 Lever support=0,-1,0 powered=true\n1,0,0 RedstoneLamp\n2,0,0 Solid\n\
+             2,1,0 Lever support=0,-1,0 powered=true\n",
             &[58],
             None,
         ),

@@ -287,14 +287,17 @@ fn a_file_that_ends_within_its_profile_is_refused_with_another_profile_too() {
         assert_eq!((done.status, done.text()), (Some(2), ""), "{length} bytes");
         assert_eq!(done.err, format!("hall: standard input: {}{PACKED}.\n", refusal(&bytes)));
     }
-    let whole = hall_with(&["unpack", "-", "--profile", &profile], &packed(|bytes| bytes.truncate(13)));
+    // One that ends with its profile, of either length, has the other.
     let line = "profile Solid=31 Transparent=1 RedstoneLamp=31 RedstoneBlock=1\n";
-    assert_eq!(
-        (whole.status, whole.text()),
-        (Some(0), format!("{line}blocks=0\n").as_str()),
-        "{}",
-        whole.err
-    );
+    for length in [PROFILE_BYTES, PROFILE_BYTES_WITH_BULB] {
+        let whole = hall_with(&["unpack", "-", "--profile", &profile], &vec![0; length]);
+        assert_eq!(
+            (whole.status, whole.text()),
+            (Some(0), format!("{line}blocks=0\n").as_str()),
+            "{}",
+            whole.err
+        );
+    }
 }
 
 /// A mistyped name costs no page that was there.
