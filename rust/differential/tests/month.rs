@@ -77,7 +77,7 @@ mod compared {
     /// Every number of rounds, every level and a refused table are among them.
     #[test]
     fn the_figures_are_the_sums_by_the_original() {
-        let cases: Vec<_> = at_least_good_cases(6_000).collect();
+        let cases: Vec<_> = at_least_good_cases(9_000).collect();
         let (mut streams, mut charging, mut sum) = (0, 0, Figures::default());
         for cases in cases.chunks(CASES_OF_A_STREAM) {
             let stream = stream(profile(cases), tables(cases));
