@@ -2,13 +2,13 @@
 
 use std::collections::BTreeMap;
 use std::fmt::{self, Debug, Display, Formatter};
-use std::io::Write;
 
 use redstone::ROW_BYTES;
 
 use crate::generate::Case;
 use crate::lent::Returned;
 use crate::refusals::REFUSED;
+use crate::suite::print;
 
 /// What a function returns, and the buffers lent to it as they come back.
 #[derive(Clone, Debug, Eq, PartialEq)]
@@ -110,9 +110,8 @@ impl Tally {
         self.comparisons.values().sum()
     }
 
-    /// Prints past the test harness, which holds back what a passing test prints.
     pub fn print(&self, title: &str) {
-        write!(std::io::stdout(), "\n{title}: {self}").expect("standard output can be written");
+        print(&format!("{title}: {self}"));
     }
 }
 

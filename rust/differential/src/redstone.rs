@@ -23,7 +23,7 @@ use crate::table::Position;
 pub use alterations::ALTERATIONS;
 pub use edges::{edges, single_bytes};
 pub use queries::{fresh_devices, queries, settle_at_every_limit};
-pub use runs::{OriginalRun, ProvedRun, Step, steps};
+pub use runs::{OriginalRun, ProvedRun, Step, hundred_ticks, steps};
 pub use simulator::Simulator;
 pub use state::device_outputs;
 

@@ -1,40 +1,27 @@
 //! The light of bulbs, against document 02's Change 4.
 
-use std::io::Write;
-
 use differential::bulb::{FEEDERS, Feeder, TRIALS, Trial, bulbs};
-use differential::differences::{Example, Fault, Proved, check, examples};
+use differential::differences::{Example, Fault, by_library, check_each};
 use differential::generate::{BENCH_PROFILE_WITH_BULB, BULB};
 use differential::probe::{probe_check, probe_properties};
-use redstone::{Circuit, Device, Figures, Kind, Row, Shape};
-
-fn print(text: &str) {
-    writeln!(std::io::stdout(), "\n{text}").expect("standard output can be written");
-}
+use differential::suite::print;
+use redstone::{Circuit, Device, Figures, Row, Shape};
 
 fn document(trial: &Trial) -> String {
     format!("```table\n{}```\n```run\n{}```\n", trial.table(), trial.run)
 }
 
-fn check_document(document: &str, check: impl Fn(&Example) -> Result<(), Fault>) -> Result<(), Fault> {
-    examples(document)?.iter().try_for_each(check)
-}
-
-fn check_proved(example: &Example) -> Result<(), Fault> {
-    check(example, || Proved::new(example.case()))
-}
-
 fn assert_written(check: impl Fn(&Example) -> Result<(), Fault>) {
     for trial in &TRIALS {
         let document = document(trial);
-        let checked = check_document(&document, &check);
+        let checked = check_each(&document, &check);
         checked.unwrap_or_else(|fault| panic!("{}: {fault} of\n{document}", trial.what));
     }
 }
 
 #[test]
 fn trials_answer_as_is_written() {
-    assert_written(check_proved);
+    assert_written(by_library);
 }
 
 /// Each light and each byte 9 that is written, once it is the other, is reported.
@@ -50,7 +37,7 @@ fn every_written_light_counts() {
             let other = format!("{rest},{}", if byte == "0" { 1 } else { 0 });
             let mut changed = lines.clone();
             changed[at] = &other;
-            let checked = check_document(&changed.join("\n"), check_proved);
+            let checked = check_each(&changed.join("\n"), by_library);
             assert_eq!(checked.map_err(|fault| fault.line), Err(at + 1), "{}: {other}", trial.what);
             changes += 1;
         }
@@ -153,18 +140,19 @@ fn the_original_was_not_found() {
 mod compared {
     use differential::bulb::{MISREADINGS, beside_every_kind};
     use differential::compare::{Answer, Answers, Tally, compare, run};
-    use differential::differences::Original;
+    use differential::differences::{by_original, by_reading};
     use differential::generate::{self, Case};
     use differential::oracle::Oracle;
     use differential::probe::Probe;
     use differential::redstone::{
-        Call, Input, OriginalRun, PROFILE, ProvedRun, STATE, Step, compare_case, queries, steps,
+        Call, Input, OriginalRun, PROFILE, ProvedRun, STATE, Step, compare_case, hundred_ticks, queries,
+        steps,
     };
     use differential::suite::{assert_compared, at_least_good_cases};
     use differential::table;
     use differential::wire::WireQuery;
     use differential::world::WorldQuery;
-    use redstone::{ROW_BYTES, STATE_BYTES};
+    use redstone::{Kind, ROW_BYTES, STATE_BYTES};
 
     use super::*;
 
@@ -173,27 +161,17 @@ mod compared {
     /// Tables on which a misreading must show.
     const MISREAD_TABLES: u64 = 5_000;
 
-    fn check_original(example: &Example) -> Result<(), Fault> {
-        let case = example.case();
-        let oracle = Oracle::new(&case);
-        check(example, || Original::new(&oracle))
-    }
-
     #[test]
     fn trials_answer_as_is_written_by_the_second_reading() {
-        assert_written(check_original);
+        assert_written(by_original);
     }
 
     /// Each wrong reading answers otherwise than is written, and otherwise than the right one on generated tables.
     #[test]
     fn misreadings_are_reported() {
         for misreading in &MISREADINGS {
-            let misread = |example: &Example| {
-                let case = example.case();
-                let oracle = Oracle::new(&case);
-                check(example, || Original::reading(&oracle, misreading.reading))
-            };
-            let tried = TRIALS.iter().find(|trial| check_document(&document(trial), misread).is_err());
+            let misread = |example: &Example| by_reading(misreading.reading, example);
+            let tried = TRIALS.iter().find(|trial| check_each(&document(trial), misread).is_err());
             assert!(tried.is_some(), "on what is tried: {}", misreading.what);
             let generated = run((0..MISREAD_TABLES).map(generate::case), |case, tally| {
                 let oracle = Oracle::new(case);
@@ -204,28 +182,12 @@ mod compared {
         }
     }
 
-    /// A hundred ticks, one by one, among which every lever is thrown twice.
-    fn hundred_ticks(rows: &[Row]) -> Vec<Step> {
-        let levers = rows.iter().filter(|row| row.kind() == Kind::Lever);
-        let throws = |on: bool| {
-            let throw = move |row: &Row| Step::Switch {
-                at: row.position(),
-                powered: (row.powered() == Some(true)) == on,
-            };
-            levers.clone().map(throw)
-        };
-        let ticks = |number| [Step::Ticks(1)].repeat(number);
-        let first = [Step::Fresh].into_iter().chain(ticks(40)).chain(throws(false));
-        first.chain(ticks(30)).chain(throws(true)).chain(ticks(30)).collect()
-    }
-
     /// States, tables and columns after every step.
     #[test]
     fn trials_agree_for_a_hundred_ticks() {
         let compared = run(TRIALS.iter().map(Trial::case), |case, tally| {
             let oracle = Oracle::new(case);
-            let steps = hundred_ticks(&oracle.rows);
-            compare(steps, &OriginalRun::new(&oracle), &ProvedRun::new(case, false), tally)
+            compare(hundred_ticks(&oracle), &OriginalRun::new(&oracle), &ProvedRun::new(case, false), tally)
         });
         let tally = assert_compared("bulb, a hundred ticks", compared);
         assert_eq!(tally.comparisons["tick"], 100 * TRIALS.len() as u64);

@@ -20,7 +20,7 @@ mod compared {
     use differential::generate::{BENCH_PROFILE, BENCH_PROFILE_WITH_BULB, Case, TORCH};
     use differential::month::{Ended, Figures, MOST_TABLES, Month, expected, stream};
     use differential::program::{find, run, run_bytewise};
-    use differential::suite::{at_least_good_cases, good_cases, with_damaged};
+    use differential::suite::{at_least_good_cases, good_cases, print, with_damaged};
     use redstone::{Kind, MOST_ROWS, PROFILE_BYTES, ROW_BYTES, Row};
 
     fn program() -> OsString {
@@ -77,7 +77,7 @@ mod compared {
     /// Every number of rounds, every level and a refused table are among them.
     #[test]
     fn the_figures_are_the_sums_by_the_original() {
-        let cases: Vec<_> = at_least_good_cases(6_000).collect();
+        let cases: Vec<_> = at_least_good_cases(9_000).collect();
         let (mut streams, mut charging, mut sum) = (0, 0, Figures::default());
         for cases in cases.chunks(CASES_OF_A_STREAM) {
             let stream = stream(profile(cases), tables(cases));
@@ -89,11 +89,10 @@ mod compared {
             charging += usize::from(cases[0].torch_charges_above());
         }
         let Figures { tables, refused, rounds, levels } = sum;
-        let counts = format!(
-            "{streams} streams, {charging} with value 32, {tables} tables settled, {refused} refused"
-        );
-        writeln!(std::io::stdout(), "\nmonth: {counts}\n  rounds {rounds:?}\n  levels {levels:?}")
-            .expect("standard output can be written");
+        print(&format!(
+            "month: {streams} streams, {charging} with value 32, {tables} tables settled, {refused} refused\n  \
+             rounds {rounds:?}\n  levels {levels:?}"
+        ));
         assert!(refused > 0, "no table was refused");
         assert!((1..streams).contains(&charging), "value 32 in {charging} of {streams} streams");
         assert!(!rounds.contains(&0), "a number of rounds is missing: {rounds:?}");

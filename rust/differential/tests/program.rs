@@ -8,12 +8,10 @@ fn the_original_was_not_found() {
 
 #[cfg(not(no_original))]
 mod compared {
-    use std::io::Write;
-
     use differential::generate::{BENCH_PROFILE_WITH_BULB, BULB, Case, TORCH};
     use differential::program::{find, run};
     use differential::settle::expected;
-    use differential::suite::{good_cases, with_damaged};
+    use differential::suite::{good_cases, print, with_damaged};
     use redstone::{Kind, Row};
 
     /// Asserts that the program writes for each input what documents 01 and 02 say, and gives that back.
@@ -43,7 +41,7 @@ mod compared {
             "{} inputs, {charging} with value 32, {fourteen} with 14 bytes of profile, {with_bulbs} with bulbs, {refused} refused",
             outputs.len()
         );
-        writeln!(std::io::stdout(), "\nprogram: {counts}").expect("standard output can be written");
+        print(&format!("program: {counts}"));
     }
 
     /// Good profiles, and bad ones.
@@ -92,8 +90,7 @@ mod compared {
             }
         }
         assert_agrees([1_000_000, 1_000_013, 1_000_014].into_iter().map(|length| vec![0; length]));
-        writeln!(std::io::stdout(), "\nprogram: {inputs} inputs of lengths about the ends")
-            .expect("standard output can be written");
+        print(&format!("program: {inputs} inputs of lengths about the ends"));
     }
 
     /// Solid blocks, and among them one bulb.

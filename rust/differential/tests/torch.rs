@@ -1,12 +1,10 @@
 //! The charge of the block above a torch, against document 02's Change 3.
 
-use std::io::Write;
-
 use differential::compare::{compare, run};
-use differential::differences::{Example, Fault, Proved, check, examples};
+use differential::differences::{Example, Fault, by_library, check_each};
 use differential::generate::{self, BENCH_PROFILE_WITH_BULB, Case, TORCH};
 use differential::probe::{Probe, probe_check};
-use differential::suite::{assert_compared, at_least_good_cases};
+use differential::suite::{assert_compared, at_least_good_cases, print};
 use differential::table;
 use differential::torch::{
     BYTES, MISREADINGS, Misreading, Pair, Reading, TRIALS, Trial, charge, pairs, profile, queries, torches,
@@ -18,10 +16,6 @@ const GENERATED_TABLES: u64 = 20_000;
 /// Tables on which all four calls are asked.
 #[cfg(not(no_original))]
 const CALLED_TABLES: u64 = 3_000;
-
-fn print(text: &str) {
-    writeln!(std::io::stdout(), "\n{text}").expect("standard output can be written");
-}
 
 fn circuit(case: &Case) -> Circuit {
     Circuit::from_table(&case.profile, &case.table[..]).unwrap_or_else(|refusal| panic!("{refusal}\n{case}"))
@@ -43,18 +37,10 @@ fn documents(trial: &Trial) -> impl Iterator<Item = String> {
     tables.map(|(table, run)| format!("```table\n{table}```\n```run\n{run}```\n"))
 }
 
-fn check_document(document: &str, check: impl Fn(&Example) -> Result<(), Fault>) -> Result<(), Fault> {
-    examples(document)?.iter().try_for_each(check)
-}
-
-fn check_proved(example: &Example) -> Result<(), Fault> {
-    check(example, || Proved::new(example.case()))
-}
-
 fn assert_written(check: impl Fn(&Example) -> Result<(), Fault>) {
     for trial in &TRIALS {
         for document in documents(trial) {
-            let checked = check_document(&document, &check);
+            let checked = check_each(&document, &check);
             checked.unwrap_or_else(|fault| panic!("{}: {fault} of\n{document}", trial.what));
         }
     }
@@ -62,7 +48,7 @@ fn assert_written(check: impl Fn(&Example) -> Result<(), Fault>) {
 
 #[test]
 fn trials_answer_as_is_written() {
-    assert_written(check_proved);
+    assert_written(by_library);
 }
 
 /// The answers with the value in the place of those without, and the other way round. In four trials they are the same.
@@ -73,12 +59,7 @@ fn exchanged_answers_are_reported() {
         let exchanged = Trial { with: trial.without, without: trial.with, ..*trial };
         let is_same = trial.with == trial.without;
         for document in documents(&exchanged) {
-            assert_eq!(
-                check_document(&document, check_proved).is_ok(),
-                is_same,
-                "{}:\n{document}",
-                trial.what
-            );
+            assert_eq!(check_each(&document, by_library).is_ok(), is_same, "{}:\n{document}", trial.what);
         }
         same += usize::from(is_same);
     }
@@ -243,12 +224,12 @@ fn the_original_was_not_found() {
 mod compared {
     use differential::compare::{Answers, Tally};
     use differential::devices::any_devices;
-    use differential::differences::Original;
+    use differential::differences::by_original;
     use differential::oracle::{Oracle, pos};
     use differential::random::Random;
     use differential::redstone::{
-        Call, Input, OriginalRun, ProvedRun, STRONG, Step, compare_case, device_outputs, fresh_devices,
-        queries as calls_on,
+        Call, Input, OriginalRun, ProvedRun, STRONG, compare_case, device_outputs, fresh_devices,
+        hundred_ticks, queries as calls_on,
     };
     use original::electrical::DeviceOutputState;
     use original::unpatched;
@@ -258,20 +239,7 @@ mod compared {
 
     #[test]
     fn trials_answer_as_is_written_by_the_original() {
-        assert_written(|example| {
-            let case = example.case();
-            let oracle = Oracle::new(&case);
-            check(example, || Original::new(&oracle))
-        });
-    }
-
-    /// A hundred ticks, one by one, of which the fiftieth is followed by the throw of every lever.
-    fn steps(rows: &[Row]) -> Vec<Step> {
-        let levers = rows.iter().filter(|row| row.kind() == Kind::Lever);
-        let throws =
-            levers.map(|row| Step::Switch { at: row.position(), powered: row.powered() != Some(true) });
-        let ticks = [Step::Ticks(1); 50];
-        [Step::Fresh].into_iter().chain(ticks).chain(throws).chain(ticks).collect()
+        assert_written(by_original);
     }
 
     /// States, tables and columns after every step.
@@ -279,7 +247,7 @@ mod compared {
     fn trials_agree_with_the_original_for_a_hundred_ticks() {
         let compared = run(trial_cases(), |case, tally| {
             let oracle = Oracle::new(case);
-            compare(steps(&oracle.rows), &OriginalRun::new(&oracle), &ProvedRun::new(case, false), tally)
+            compare(hundred_ticks(&oracle), &OriginalRun::new(&oracle), &ProvedRun::new(case, false), tally)
         });
         let tally = assert_compared("torch, a hundred ticks", compared);
         let tables = (2 * TRIALS.len() * BYTES.len()) as u64;

@@ -8,7 +8,7 @@ fn the_original_was_not_found() {
 
 #[cfg(not(no_original))]
 mod compared {
-    use differential::generate::{BENCH_PROFILE_WITH_BULB, BULB, Case};
+    use differential::generate::{BENCH_PROFILE_WITH_BULB, Case};
     use differential::probe::probe_offset;
     use differential::suite::{assert_agrees, assert_alterations_reported, good_cases, panics, with_damaged};
     use differential::world::{ALTERATIONS, compare_case};
@@ -35,13 +35,11 @@ mod compared {
     }
 
     /// With a byte for the bulb, and without where the row is no bulb.
-    fn one_row(row: Row, bits: u8) -> impl Iterator<Item = Case> {
+    fn one_row(row: Row, bits: u8) -> Vec<Case> {
         let mut profile = BENCH_PROFILE_WITH_BULB;
         profile[usize::from(row.kind().code())] = bits;
-        let without = (row.kind() != Kind::CopperBulb).then_some(&profile[..BULB]);
-        let cases =
-            [&profile[..]].into_iter().chain(without).map(|profile| Case::new("one block", profile, [row]));
-        cases.collect::<Vec<_>>().into_iter()
+        let lengths = if row.kind() == Kind::CopperBulb { &[14][..] } else { &[13, 14] };
+        lengths.iter().map(|length| Case::new("one block", &profile[..*length], [row])).collect()
     }
 
     /// The original's sum overflows: it panics, or wraps where overflow is not checked.

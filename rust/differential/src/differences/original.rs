@@ -1,7 +1,7 @@
 //! The original.
 
 use super::bench::{Bench, Settled};
-use crate::bulb::{READING, Reading};
+use crate::bulb::Reading;
 use crate::compare::Answers;
 use crate::oracle::Oracle;
 use crate::redstone::{OriginalRun, SIGNAL, STATE, STRONG, Step, WEAK};
@@ -16,12 +16,7 @@ pub struct Original<'a> {
 }
 
 impl<'a> Original<'a> {
-    pub fn new(oracle: &'a Oracle<'a>) -> Self {
-        Self::reading(oracle, READING)
-    }
-
-    /// Where Change 4 is read so.
-    pub fn reading(oracle: &'a Oracle<'a>, reading: Reading) -> Self {
+    pub fn new(oracle: &'a Oracle<'a>, reading: Reading) -> Self {
         Self { oracle, run: OriginalRun::reading(oracle, reading) }
     }
 

@@ -4,7 +4,7 @@ use original::electrical::DeviceOutputState;
 use redstone::{Kind, Row, STATE_BYTES};
 
 use super::{Call, Input, SETTLES};
-use crate::devices::{any_device, any_devices};
+use crate::devices::{any_device, any_devices, is_switch};
 use crate::generate::Case;
 use crate::oracle::{Oracle, pos};
 use crate::random::Random;
@@ -142,7 +142,6 @@ fn switch(random: &mut Random, oracle: &Oracle, state: Vec<u8>) -> Input {
 
 /// A switch's position as often as any row's, or now and then any.
 pub fn any_position(random: &mut Random, oracle: &Oracle) -> Position {
-    let is_switch = |row: &Row| matches!(row.kind(), Kind::Lever | Kind::Button | Kind::PressurePlate);
     let mut rows: Vec<_> = oracle.rows.iter().collect();
     if random.percent(50) && rows.iter().any(|row| is_switch(row)) {
         rows.retain(|row| is_switch(row));

@@ -3,7 +3,7 @@
 use std::cell::RefCell;
 
 use original::electrical::InstantaneousElectricalState;
-use redstone::STATE_BYTES;
+use redstone::{Kind, Row, STATE_BYTES};
 
 use super::queries::{LARGE, any_position};
 use super::simulator::Simulator;
@@ -47,6 +47,21 @@ pub fn steps(oracle: &Oracle) -> Vec<Step> {
         steps.push(Step::Ticks(random.pick(&[0, 1, 1, 1, 1, 1, 2, 3, 8])));
     }
     steps
+}
+
+/// A hundred ticks, one by one, among which every lever is thrown and thrown back.
+pub fn hundred_ticks(oracle: &Oracle) -> Vec<Step> {
+    let levers = oracle.rows.iter().filter(|row| row.kind() == Kind::Lever);
+    let throws = |back: bool| {
+        let throw = move |row: &Row| Step::Switch {
+            at: row.position(),
+            powered: (row.powered() == Some(true)) == back,
+        };
+        levers.clone().map(throw)
+    };
+    let ticks = |number| vec![Step::Ticks(1); number];
+    let first = [Step::Fresh].into_iter().chain(ticks(40)).chain(throws(false));
+    first.chain(ticks(30)).chain(throws(true)).chain(ticks(30)).collect()
 }
 
 /// A run of the proved calls, each on the table, state and tick number that the one before left.

@@ -1,7 +1,7 @@
 //! Operations 10 to 13: settle, fresh, ticks and switch.
 
 use differential::compare::{Answer, Answers};
-use differential::devices::any_devices;
+use differential::devices::{any_devices, is_switch};
 use differential::generate::{BENCH_PROFILE, BENCH_PROFILE_WITH_BULB, Case};
 use differential::oracle::Oracle;
 use differential::random::Random;
@@ -177,10 +177,6 @@ fn steps(random: &mut Random, case: &Case) -> Vec<Step> {
 fn short_steps(random: &mut Random, case: &Case) -> Vec<Step> {
     let (at, powered) = (switch_position(random, case), random.percent(50));
     vec![Step::Fresh, Step::Switch { at, powered }, Step::Ticks(5)]
-}
-
-fn is_switch(row: &Row) -> bool {
-    matches!(row.kind(), Kind::Lever | Kind::Button | Kind::PressurePlate)
 }
 
 /// The position of a switch if there is one, else of any row.
