@@ -50,7 +50,7 @@ const fn patch(file: &'static str, old: &'static str, new: &'static str) -> Patc
 }
 
 /// Every change to the original's text.
-const PATCHES: [Patch; 15] = [
+const PATCHES: [Patch; 18] = [
     // The profile is an input, read while the program runs, so these two functions are const no more.
     patch(WORLD, "pub const fn properties(", "pub fn properties("),
     patch(BLOCKS, "pub const fn behavior_profile(", "pub fn behavior_profile("),
@@ -73,6 +73,20 @@ const PATCHES: [Patch; 15] = [
         "_ => Vec::new(),",
         "BlockKind::RedstoneTorch if crate::profile::torch_charges_above() => vec![pos.offset(0, 1, 0)], \
          _ => Vec::new(),",
+    ),
+    // Document 02, Change 4: a bulb is one kind more, after the others, whose properties are those of its byte of the
+    // profile. No other line of the original names it, so it is a block like any that has no rule of its own.
+    patch(WORLD, "    Piston,\n}", "    Piston,\n    CopperBulb,\n}"),
+    patch(
+        BLOCKS,
+        " air::PROFILE,",
+        " air::PROFILE,\n        BlockKind::CopperBulb => crate::profile::of_kind(13),",
+    ),
+    // `capabilities` has to name every kind, and nobody here asks for its answer.
+    patch(
+        WORLD,
+        "BlockKind::Solid | BlockKind::Transparent => {",
+        "BlockKind::Solid | BlockKind::Transparent | BlockKind::CopperBulb => {",
     ),
 ];
 

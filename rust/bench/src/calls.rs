@@ -11,12 +11,14 @@ use differential::table::Position;
 use differential::world::WorldQuery;
 use original::electrical::solve_instantaneous;
 use original::sim::RedstoneTickSimulator;
-use redstone::{Columns, Kind, Row, STATE_BYTES, fresh, settle, switch, tick};
+use redstone::{Columns, Kind, PROFILE_BYTES, Row, STATE_BYTES, fresh, settle, switch, tick};
 
 use crate::timing::{Medians, medians};
 
 pub fn cases() -> impl Iterator<Item = Case> {
-    let dense = (0..).map(generate::case).find(|case| case.sort == "1,024 rows");
+    // Without bulbs, which are none of the original's devices.
+    let is_dense = |case: &Case| case.sort == "1,024 rows" && case.profile.len() == PROFILE_BYTES;
+    let dense = (0..).map(generate::case).find(is_dense);
     let dense = Case {
         sort: "dense, 1,024 rows",
         profile: BENCH_PROFILE.into(),
@@ -131,14 +133,14 @@ fn of_tick(oracle: &Oracle) -> Medians {
     let Case { profile, table, .. } = oracle.case;
     let mut levels = Levels::new(oracle.rows.len());
     let mut started = oracle.started();
-    let mut state = oracle.packed(&started);
-    let simulator = started.get_mut();
+    let mut state = started.packed();
+    let simulator = started.original();
     let medians = medians(
         || (),
         |()| simulator.advance_tick(),
         || tick(profile, table, &mut state, 0, 1, levels.columns()),
     );
-    assert!(state == oracle.packed(&started), "the sides' states differ");
+    assert!(state == started.packed(), "the sides' states differ");
     medians
 }
 
@@ -146,8 +148,8 @@ fn of_switch(oracle: &Oracle) -> Medians {
     let profile = &oracle.case.profile;
     let (mut table, mut levels) = (oracle.case.table.clone(), Levels::new(oracle.rows.len()));
     let mut started = oracle.started();
-    let state = oracle.packed(&started);
-    let simulator = started.get_mut();
+    let state = started.packed();
+    let simulator = started.original();
     let at = switched(&oracle.rows);
     let (mut simulators, mut proved) = (false, false);
     medians(

@@ -3,7 +3,7 @@
 use redstone::{Kind, MOST_ROWS, ROW_BYTES};
 
 use crate::compare::{Alteration, Answer, Answers, Compared, Query, Tally, compare};
-use crate::generate::{Case, TORCH};
+use crate::generate::{BULB, Case, TORCH};
 use crate::probe::{Probe, probe_check};
 use crate::refusals::{self, REFUSED, Refusal};
 
@@ -35,7 +35,7 @@ pub fn compare_case(case: &Case, actual: &dyn Answers<Check>, tally: &mut Tally)
     compare([Check], &Reading(case), actual, tally)
 }
 
-pub const ALTERATIONS: [Alteration<Check>; 7] = [
+pub const ALTERATIONS: [Alteration<Check>; 12] = [
     Alteration {
         function: "check",
         what: "a bad row's number is the next row's",
@@ -85,10 +85,8 @@ pub const ALTERATIONS: [Alteration<Check>; 7] = [
         function: "check",
         what: "the torch's byte reaches 64",
         alter: |case, _, answer| {
-            let mut case = case.clone();
             if case.profile.get(TORCH) == Some(&64) {
-                case.profile[TORCH] = 0;
-                *answer = Probe(&case).answer(&Check);
+                *answer = with_profile(case, |profile| profile[TORCH] = 0);
             }
         },
     },
@@ -96,13 +94,62 @@ pub const ALTERATIONS: [Alteration<Check>; 7] = [
         function: "check",
         what: "the lever's byte reaches 63, too",
         alter: |case, _, answer| {
-            let mut case = case.clone();
             if let Some(32..=63) = case.profile.get(LEVER) {
-                case.profile[LEVER] = 0;
-                *answer = Probe(&case).answer(&Check);
+                *answer = with_profile(case, |profile| profile[LEVER] = 0);
+            }
+        },
+    },
+    Alteration {
+        function: "check",
+        what: "the bulb's byte reaches 63, too",
+        alter: |case, _, answer| {
+            if let Some(32..=63) = case.profile.get(BULB) {
+                *answer = with_profile(case, |profile| profile[BULB] = 0);
+            }
+        },
+    },
+    Alteration {
+        function: "check",
+        what: "the bulb's byte may be anything",
+        alter: |case, _, answer| {
+            if case.has_byte_of_the_bulb() {
+                *answer = with_profile(case, |profile| profile[BULB] = 0);
+            }
+        },
+    },
+    Alteration {
+        function: "check",
+        what: "a bulb passes without a byte for it",
+        alter: |case, _, answer| {
+            if case.profile.len() == BULB {
+                *answer = with_profile(case, |profile| profile.push(0));
+            }
+        },
+    },
+    Alteration {
+        function: "check",
+        what: "no bulb passes",
+        alter: |case, _, answer| {
+            if case.has_byte_of_the_bulb() && answer.refusal() != Some(1) {
+                *answer = with_profile(case, |profile| profile.truncate(BULB));
+            }
+        },
+    },
+    Alteration {
+        function: "check",
+        what: "a profile may have 15 bytes",
+        alter: |case, _, answer| {
+            if case.profile.len() == 15 {
+                *answer = with_profile(case, |profile| profile.truncate(14));
             }
         },
     },
 ];
+
+fn with_profile(case: &Case, change: impl Fn(&mut Vec<u8>)) -> Answer {
+    let mut case = case.clone();
+    change(&mut case.profile);
+    Probe(&case).answer(&Check)
+}
 
 const LEVER: usize = Kind::Lever.code() as usize;

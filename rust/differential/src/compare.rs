@@ -2,13 +2,13 @@
 
 use std::collections::BTreeMap;
 use std::fmt::{self, Debug, Display, Formatter};
-use std::io::Write;
 
 use redstone::ROW_BYTES;
 
 use crate::generate::Case;
 use crate::lent::Returned;
 use crate::refusals::REFUSED;
+use crate::suite::print;
 
 /// What a function returns, and the buffers lent to it as they come back.
 #[derive(Clone, Debug, Eq, PartialEq)]
@@ -91,6 +91,9 @@ pub struct Tally {
     pub tables: BTreeMap<&'static str, u64>,
     /// The tables whose profile has value 32 for the torch.
     pub charging: u64,
+    /// The tables whose profile has a byte for the bulb.
+    pub fourteen: u64,
+    pub with_bulbs: u64,
     pub comparisons: BTreeMap<&'static str, u64>,
     pub answers: BTreeMap<(&'static str, i128), u64>,
 }
@@ -99,21 +102,25 @@ impl Tally {
     pub fn count(&mut self, case: &Case) {
         *self.tables.entry(case.sort).or_default() += 1;
         self.charging += u64::from(case.torch_charges_above());
+        self.fourteen += u64::from(case.has_byte_of_the_bulb());
+        self.with_bulbs += u64::from(case.has_bulbs());
     }
 
     pub fn all_comparisons(&self) -> u64 {
         self.comparisons.values().sum()
     }
 
-    /// Prints past the test harness, which holds back what a passing test prints.
     pub fn print(&self, title: &str) {
-        write!(std::io::stdout(), "\n{title}: {self}").expect("standard output can be written");
+        print(&format!("{title}: {self}"));
     }
 }
 
 impl Display for Tally {
     fn fmt(&self, f: &mut Formatter<'_>) -> fmt::Result {
-        let tables = format!("tables, {} with value 32", self.charging);
+        let Self { charging, fourteen, with_bulbs, .. } = self;
+        let tables = format!(
+            "tables, {charging} with value 32, {fourteen} with 14 bytes of profile, {with_bulbs} with bulbs"
+        );
         for (what, counts) in [(&tables[..], &self.tables), ("comparisons", &self.comparisons)] {
             writeln!(f, "{} {what}", counts.values().sum::<u64>())?;
             for (name, count) in counts {

@@ -1,15 +1,16 @@
-//! Damaged copies of accepted cases. What a copy is refused for, if at all, is for document 01 to say.
+//! Damaged copies of accepted cases. What a copy is refused for, if at all, is for documents 01 and 02 to say.
 
 use redstone::{FARTHEST, Kind, MOST_ROWS, ROW_BYTES, Row};
 
-use crate::generate::{Case, TORCH};
+use crate::generate::{BULB, Case, TORCH};
 use crate::random::Random;
 
 type Damage = (&'static str, fn(&mut Random, &mut Case));
 
 /// The sorts of damage, each with its share.
-const DAMAGES: [(usize, Damage); 15] = [
+const DAMAGES: [(usize, Damage); 17] = [
     (10, ("field byte", field_byte)),
+    (10, ("kind", kind)),
     (10, ("value not given", value_not_given)),
     (10, ("given byte", given_byte)),
     (10, ("coordinate at or past the end", coordinate)),
@@ -22,6 +23,7 @@ const DAMAGES: [(usize, Damage); 15] = [
     (10, ("profile length", profile_length)),
     (10, ("profile of Air", profile_of_air)),
     (10, ("profile of the torch", profile_of_the_torch)),
+    (10, ("profile of the bulb", profile_of_the_bulb)),
     (10, ("profile byte", profile_byte)),
     (10, ("any byte", any_byte)),
 ];
@@ -57,6 +59,11 @@ fn field_byte(random: &mut Random, case: &mut Case) {
     let places: Vec<usize> = (12..ROW_BYTES).collect();
     let any = random.byte();
     set_byte(random, case, &places, &[0, 1, 2, 3, 4, 6, 7, 12, 13, 128, 254, 255, any]);
+}
+
+/// The kinds about the ends, of which a bulb is one where the profile has a byte for it.
+fn kind(random: &mut Random, case: &mut Case) {
+    set_byte(random, case, &[12], &[0, 1, 12, 13, 13, 14, 255]);
 }
 
 /// The byte that says "given" is 0 over a value that is not.
@@ -130,7 +137,7 @@ fn many_rows(random: &mut Random, case: &mut Case) {
 }
 
 fn profile_length(random: &mut Random, case: &mut Case) {
-    let length = random.pick(&[0, 1, 12, 13, 14, 26]);
+    let length = random.pick(&[0, 1, 12, 13, 13, 14, 14, 15, 26, 27, 28]);
     case.profile.resize(length, 0);
 }
 
@@ -141,9 +148,18 @@ fn profile_of_air(random: &mut Random, case: &mut Case) {
 }
 
 fn profile_of_the_torch(random: &mut Random, case: &mut Case) {
+    profile_of(TORCH, random, case);
+}
+
+fn profile_of_the_bulb(random: &mut Random, case: &mut Case) {
+    profile_of(BULB, random, case);
+}
+
+/// A byte about the ends of the values, with the torch's and without.
+fn profile_of(kind: usize, random: &mut Random, case: &mut Case) {
     let any = random.byte();
-    if let Some(torch) = case.profile.get_mut(TORCH) {
-        *torch = random.pick(&[0, 31, 32, 33, 63, 64, 65, 255, any]);
+    if let Some(byte) = case.profile.get_mut(kind) {
+        *byte = random.pick(&[0, 31, 32, 33, 63, 64, 65, 255, any]);
     }
 }
 

@@ -1,4 +1,4 @@
-//! Device columns from random numbers.
+//! Device columns from random numbers, and what is no device and can be thrown.
 
 use redstone::{Kind, Row};
 
@@ -7,6 +7,10 @@ use crate::random::Random;
 /// Any valid device column.
 pub fn any_devices(random: &mut Random, rows: &[Row]) -> Vec<u8> {
     rows.iter().map(|row| any_device(random, row.kind())).collect()
+}
+
+pub fn is_switch(row: &Row) -> bool {
+    matches!(row.kind(), Kind::Lever | Kind::Button | Kind::PressurePlate)
 }
 
 pub fn any_device(random: &mut Random, kind: Kind) -> u8 {

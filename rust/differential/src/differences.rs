@@ -2,6 +2,7 @@
 
 mod answers;
 mod bench;
+mod checked;
 mod document;
 mod named;
 #[cfg(not(no_original))]
@@ -13,12 +14,12 @@ use std::fmt::{self, Display, Formatter};
 
 use redstone_text::Line;
 
-pub use answers::check;
+pub use checked::{by_library, check_each};
+#[cfg(not(no_original))]
+pub use checked::{by_original, by_reading};
 pub use document::{Example, examples};
 pub use named::{named_tests, tests_in};
-#[cfg(not(no_original))]
-pub use original::Original;
-pub use proved::Proved;
+use proved::Proved;
 pub use risks::check_risks;
 
 /// What is wrong in the document.

@@ -1,20 +1,22 @@
 //! Accepted tables and profiles from a seed.
 
+mod bulbs;
 mod rows;
 mod sorts;
 mod torches;
 
 use std::fmt::{self, Display, Formatter};
 
-use redstone::{Kind, ROW_BYTES, Row, TORCH_CHARGES_ABOVE};
+use redstone::{Kind, PROFILE_BYTES, PROFILE_BYTES_WITH_BULB, ROW_BYTES, Row, TORCH_CHARGES_ABOVE};
 use redstone_text::row_text;
 
 use crate::random::Random;
 
-pub use redstone::BENCH_PROFILE;
+pub use redstone::{BENCH_PROFILE, BENCH_PROFILE_WITH_BULB};
 
-/// The place of the torch's byte in a profile.
+/// The places of the torch's byte in a profile, and of the bulb's where there is one.
 pub const TORCH: usize = Kind::RedstoneTorch.code() as usize;
+pub const BULB: usize = Kind::CopperBulb.code() as usize;
 
 /// What both sides are asked about.
 #[derive(Clone, Debug)]
@@ -27,8 +29,8 @@ pub struct Case {
 
 impl Case {
     /// A case that no seed gives, of rows in any order.
-    pub fn new(sort: &'static str, profile: [u8; 13], rows: impl IntoIterator<Item = Row>) -> Self {
-        Self { seed: 0, sort, profile: profile.to_vec(), table: redstone::table(rows) }
+    pub fn new(sort: &'static str, profile: impl Into<Vec<u8>>, rows: impl IntoIterator<Item = Row>) -> Self {
+        Self { seed: 0, sort, profile: profile.into(), table: redstone::table(rows) }
     }
 
     /// A case that no seed gives, of any bytes.
@@ -62,6 +64,17 @@ impl Case {
         }
         case
     }
+
+    /// Whether the profile, which need not be accepted, has as many bytes as one with the bulb's.
+    pub fn has_byte_of_the_bulb(&self) -> bool {
+        self.profile.len() == PROFILE_BYTES_WITH_BULB
+    }
+
+    /// Whether a row is of the bulb's kind and the profile has a byte for it.
+    pub fn has_bulbs(&self) -> bool {
+        let mut rows = self.table.chunks_exact(ROW_BYTES);
+        self.has_byte_of_the_bulb() && rows.any(|row| row[12] == Kind::CopperBulb.code())
+    }
 }
 
 impl Display for Case {
@@ -83,30 +96,38 @@ fn hex(bytes: &[u8]) -> String {
 type Sort = (&'static str, fn(&mut Random) -> Vec<Row>);
 
 /// The sorts of table, each with its share.
-const SORTS: [(usize, Sort); 10] = [
+const SORTS: [(usize, Sort); 11] = [
     (5, ("no rows", |_| Vec::new())),
-    (270, ("dense box", sorts::dense_box)),
-    (170, ("dust line", sorts::dust_line)),
-    (180, ("staircase", sorts::staircase)),
-    (130, ("devices", sorts::devices)),
-    (150, ("torches", torches::torches)),
-    (40, ("clock", sorts::clock)),
+    (190, ("dense box", sorts::dense_box)),
+    (130, ("dust line", sorts::dust_line)),
+    (140, ("staircase", sorts::staircase)),
+    (100, ("devices", sorts::devices)),
+    (120, ("torches", torches::torches)),
+    (200, ("bulbs", bulbs::bulbs)),
+    (60, ("clock", sorts::clock)),
     (45, ("sparse", sorts::sparse)),
     (9, ("hundreds of rows", sorts::large_box)),
     (1, ("1,024 rows", sorts::full_box)),
 ];
 
-/// The accepted case of a seed.
+/// The accepted case of a seed. Of six tables two have a profile without a byte for the bulb, and one more has no bulbs.
 pub fn case(seed: u64) -> Case {
     let mut random = Random::new(seed);
     let (sort, make) = random.weighted(&SORTS);
     let rows = make(&mut random);
-    Case { seed, ..Case::new(sort, profile(&mut random), rows) }
+    let mut profile = profile(&mut random);
+    let (rows, bytes) = match random.below(6) {
+        0..2 => (bulbs::replaced(rows), PROFILE_BYTES),
+        2 => (bulbs::replaced(rows), PROFILE_BYTES_WITH_BULB),
+        _ => (bulbs::placed(&mut random, rows), PROFILE_BYTES_WITH_BULB),
+    };
+    profile.truncate(bytes);
+    Case { seed, ..Case::new(sort, profile, rows) }
 }
 
 /// The bench profile or any, and with either the torch as often charges the block above as not.
-fn profile(random: &mut Random) -> [u8; 13] {
-    let mut profile = BENCH_PROFILE;
+fn profile(random: &mut Random) -> Vec<u8> {
+    let mut profile = BENCH_PROFILE_WITH_BULB.to_vec();
     if random.percent(50) {
         let plain = random.percent(40);
         for byte in &mut profile[1..] {

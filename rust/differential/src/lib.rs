@@ -1,6 +1,8 @@
 //! Holds the proved functions of the static libraries `probe` and `redstone`, and the programs `settle` and `month`,
-//! against the original Rust, and look-ups on rows in any order and what a torch charges against document 02.
+//! against the original Rust, and look-ups on rows in any order, what a torch charges and the light of bulbs against
+//! document 02.
 
+pub mod bulb;
 pub mod checks;
 pub mod compare;
 #[cfg(not(no_original))]

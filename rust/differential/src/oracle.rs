@@ -17,22 +17,23 @@ pub struct Oracle<'a> {
 }
 
 /// The original's world of these rows, which answers by the profile. Every world is made here.
-pub fn world(profile: Profile, rows: &[Row]) -> Profiled<World> {
+pub fn world(profile: &[u8], rows: &[Row]) -> Profiled<World> {
+    let mut bytes = Profile::default();
+    bytes[..profile.len()].copy_from_slice(profile);
     let mut world = World::new();
     for row in rows {
         world.set(pos(row.position()), block(row));
     }
-    Profiled::new(profile, world)
+    Profiled::new(bytes, world)
 }
 
 impl<'a> Oracle<'a> {
     pub fn new(case: &'a Case) -> Self {
         let refusal = refusals::check(&case.profile, &case.table);
-        let (mut profile, mut rows) = (Profile::default(), Vec::new());
-        if refusal.is_ok() {
-            profile.copy_from_slice(&case.profile);
-            rows = table::rows(&case.table);
-        }
+        let (profile, rows) = match refusal {
+            Ok(()) => (&case.profile[..], table::rows(&case.table)),
+            Err(_) => (&[][..], Vec::new()),
+        };
         let world = world(profile, &rows);
         Self { case, refusal, rows, world }
     }
@@ -59,7 +60,7 @@ pub fn pos([x, y, z]: Position) -> Pos {
     Pos::new(x, y, z)
 }
 
-pub const KINDS: [BlockKind; 13] = [
+pub const KINDS: [BlockKind; 14] = [
     BlockKind::Air,
     BlockKind::Solid,
     BlockKind::Transparent,
@@ -73,6 +74,7 @@ pub const KINDS: [BlockKind; 13] = [
     BlockKind::RedstoneLamp,
     BlockKind::RedstoneBlock,
     BlockKind::Piston,
+    BlockKind::CopperBulb,
 ];
 
 const FACINGS: [Facing; 6] =

@@ -4,14 +4,14 @@ mod alterations;
 mod edges;
 mod queries;
 mod runs;
+mod simulator;
 mod state;
 
-use original::Profiled;
 use original::electrical::{InstantaneousElectricalState, PoweredBlockState, solve_instantaneous};
-use original::sim::{RedstoneTickSimulator, TickState};
 use original::world::World;
 use redstone::{Columns, ROW_BYTES, Rounds, STATE_BYTES};
 
+use crate::bulb::READING;
 use crate::compare::{Answer, Answers, Compared, Query, Tally, compare};
 use crate::generate::Case;
 use crate::lent::Lent;
@@ -23,9 +23,9 @@ use crate::table::Position;
 pub use alterations::ALTERATIONS;
 pub use edges::{edges, single_bytes};
 pub use queries::{fresh_devices, queries, settle_at_every_limit};
-pub use runs::{OriginalRun, ProvedRun, Step, steps};
+pub use runs::{OriginalRun, ProvedRun, Step, hundred_ticks, steps};
+pub use simulator::Simulator;
 pub use state::device_outputs;
-use state::{pack, unpack};
 
 pub fn compare_case(case: &Case, actual: &dyn Answers<Call>, tally: &mut Tally) -> Compared {
     let oracle = Oracle::new(case);
@@ -174,31 +174,25 @@ impl Oracle<'_> {
 
     fn fresh(&self, state: &mut [u8]) -> InstantaneousElectricalState {
         let simulator = self.started();
-        state.copy_from_slice(&self.packed(&simulator));
-        settled(simulator.get().snapshot())
+        state.copy_from_slice(&simulator.packed());
+        simulator.settled()
     }
 
-    /// The original's simulator, at its start.
-    pub fn started(&self) -> Profiled<RedstoneTickSimulator> {
-        self.made(|world| RedstoneTickSimulator::new(world).expect(SETTLES))
+    /// The simulator, at its start.
+    pub fn started(&self) -> Simulator<'_> {
+        Simulator::started(self, READING)
     }
 
-    /// The original's simulator, at a packed state.
-    pub fn simulator(&self, state: &[u8]) -> Profiled<RedstoneTickSimulator> {
-        let parts = unpack(&self.rows, state);
-        self.made(|world| RedstoneTickSimulator::from_parts(world, parts).expect(SETTLES))
-    }
-
-    /// The state that a simulator stands at.
-    pub fn packed(&self, simulator: &Profiled<RedstoneTickSimulator>) -> Vec<u8> {
-        pack(&self.rows, &simulator.get().parts())
+    /// The simulator, at a packed state.
+    pub fn simulator(&self, state: &[u8]) -> Simulator<'_> {
+        Simulator::at(self, state)
     }
 
     fn tick(&self, state: &mut [u8], ticks: u32) -> InstantaneousElectricalState {
         let mut simulator = self.simulator(state);
-        let last = simulator.get_mut().settle_ticks(ticks as usize).expect(SETTLES);
-        state.copy_from_slice(&self.packed(&simulator));
-        settled(last)
+        let last = simulator.tick(ticks);
+        state.copy_from_slice(&simulator.packed());
+        last
     }
 
     fn switch(
@@ -209,9 +203,9 @@ impl Oracle<'_> {
         table: &mut [u8],
     ) -> InstantaneousElectricalState {
         let mut simulator = self.simulator(state);
-        let last = simulator.get_mut().set_powered(pos(at), powered).expect(SETTLES);
-        write_powered(table, simulator.get().world());
-        settled(last)
+        let last = simulator.switch(at, powered);
+        write_powered(table, simulator.world());
+        last
     }
 
     fn write_columns(&self, settled: &InstantaneousElectricalState, [signal, weak, strong]: [&mut [u8]; 3]) {
@@ -230,11 +224,3 @@ fn write_powered(table: &mut [u8], world: &World) {
 }
 
 const SETTLES: &str = "the original settles within its limit of 128";
-
-fn settled(state: TickState) -> InstantaneousElectricalState {
-    InstantaneousElectricalState {
-        signal_levels: state.strengths,
-        block_power: state.block_power,
-        iterations: state.instantaneous_iterations,
-    }
-}

@@ -45,7 +45,7 @@ pub fn check(profile: &[u8], table: &[u8]) -> Checked {
     refuse_if(!good_profile(profile), 1)?;
     refuse_if(!table.len().is_multiple_of(ROW_BYTES), 2)?;
     refuse_if(row_count(table) > MOST_ROWS, 3)?;
-    refuse_first(4, rows(table).position(|row| !good_row(row)))?;
+    refuse_first(4, rows(table).position(|row| !good_row(profile, row)))?;
     let misplaced = |row: &usize| position(table, row - 1) >= position(table, *row);
     refuse_first(5, (1..row_count(table)).find(misplaced))
 }
@@ -86,8 +86,9 @@ fn position(table: &[u8], row: usize) -> Position {
     coordinates(&table[ROW_BYTES * row..])
 }
 
+/// Document 02, Change 4: "the profile may have 14 bytes".
 fn good_profile(profile: &[u8]) -> bool {
-    profile.len() == 13
+    matches!(profile.len(), 13 | 14)
         && profile[0] == 0
         && (0..).zip(profile).all(|(kind, byte)| *byte <= highest_profile_byte(kind))
 }
@@ -100,12 +101,13 @@ fn highest_profile_byte(kind: u8) -> u8 {
     }
 }
 
-fn good_row(row: &[u8]) -> bool {
+/// The kinds are those from 1 on that the profile has a byte for: "with 13 a bulb row is number 4".
+fn good_row(profile: &[u8], row: &[u8]) -> bool {
     let given = |at: usize, values: std::ops::Range<usize>| {
         row[at] == 1 || row[at] == 0 && row[values].iter().all(|byte| *byte == 0)
     };
     coordinates(row).iter().all(|coordinate| (-FARTHEST..=FARTHEST).contains(coordinate))
-        && (1..=12).contains(&row[12])
+        && (1..profile.len()).contains(&row[12].into())
         && row[13] <= 6
         && row[14] <= 2
         && given(15, 16..17)
@@ -134,14 +136,17 @@ fn good_state(row: &[u8], state: &[u8]) -> bool {
     state[0] <= highest_device_byte(row[12])
         && only(Kind::Repeater, 1..2)
         && (!is(Kind::Repeater) || good_queue(row, state))
-        && only(Kind::RedstoneLamp, 2..4)
+        && (is(Kind::CopperBulb) || only(Kind::RedstoneLamp, 2..3))
         && state[2] <= 1
+        && only(Kind::RedstoneLamp, 3..4)
         && state[3] <= 2 * state[2]
         && only(Kind::RedstoneTorch, 4..9)
         && toggles < 1 << 31
         && state[8] <= 1
         && (state[8] == 1 || toggles.count_ones() < 8)
-        && state[9..] == [0; 7]
+        && only(Kind::CopperBulb, 9..10)
+        && state[9] <= 1
+        && state[10..] == [0; 6]
 }
 
 fn good_queue(row: &[u8], state: &[u8]) -> bool {

@@ -1,26 +1,36 @@
-//! What document 01 says of the program `settle`.
+//! What documents 01 and 02 say of the program `settle`.
 
 use original::electrical::PoweredBlockState;
-use redstone::{PROFILE_BYTES, Row};
+use redstone::Row;
 
 use crate::generate::Case;
 use crate::oracle::{Oracle, pos};
 use crate::refusals::Refusal;
 use crate::report;
 
-pub const MOST_BYTES: usize = 32_781;
-
 /// What it is to write for an input.
 pub fn expected(input: &[u8]) -> String {
-    if input.len() > MOST_BYTES {
-        return report::refused(Refusal { number: 3, row: 0 });
-    }
-    let (profile, table) = input.split_at(input.len().min(PROFILE_BYTES));
+    written(input).unwrap_or_else(report::refused)
+}
+
+fn written(input: &[u8]) -> Result<String, Refusal> {
+    let (profile, table) = parts(input).map_err(|number| Refusal { number, row: 0 })?;
     let case = Case::of_bytes(profile, table);
     let oracle = Oracle::new(&case);
-    match oracle.refusal {
-        Ok(()) => settled(&oracle),
-        Err(refusal) => report::refused(refusal),
+    oracle.refusal?;
+    Ok(settled(&oracle))
+}
+
+/// The profile and the table, or the number by which the input's length is refused. Change 4: `settle` "tells 13 from 14
+/// by the length's remainder by 32 and calls any other remainder number 2, before number 1's other cases".
+fn parts(input: &[u8]) -> Result<(&[u8], &[u8]), u32> {
+    let profile_bytes = input.len() % 32;
+    let most = if profile_bytes == 14 { 32_782 } else { 32_781 };
+    match (input.len(), profile_bytes) {
+        (..13, _) => Err(1),
+        (length, _) if length > most => Err(3),
+        (_, 13 | 14) => Ok(input.split_at(profile_bytes)),
+        _ => Err(2),
     }
 }
 

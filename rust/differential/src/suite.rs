@@ -3,6 +3,7 @@
 use std::cell::Cell;
 use std::collections::BTreeSet;
 use std::env;
+use std::io::Write;
 use std::ops::Range;
 use std::panic::{UnwindSafe, catch_unwind, set_hook, take_hook};
 use std::sync::Once;
@@ -64,6 +65,11 @@ pub fn assert_compared(title: &str, compared: Result<Tally, Box<Report>>) -> Tal
     let tally = compared.unwrap_or_else(|report| panic!("{title}: {report}"));
     tally.print(title);
     tally
+}
+
+/// Prints past the test harness, which holds back what a passing test prints.
+pub fn print(text: &str) {
+    writeln!(std::io::stdout(), "\n{}", text.trim_end()).expect("standard output can be written");
 }
 
 /// Accepted and damaged tables, until as many comparisons as `wanted` are made of them.
@@ -141,8 +147,7 @@ pub fn panics<T>(call: impl FnOnce() -> T + UnwindSafe) -> bool {
 /// Stands in for an area's tests where there is nothing to compare with.
 #[cfg(no_original)]
 pub fn say_original_not_found(area: &str) {
-    use std::io::Write;
     let text = "the original was not found (rust/original/build.rs says where it is looked for), \
                 so nothing was compared with it: only the recorded answers are replayed.";
-    writeln!(std::io::stdout(), "\n{area}: {text}").expect("standard output can be written");
+    print(&format!("{area}: {text}"));
 }

@@ -2,14 +2,14 @@
 //! names are there.
 
 use std::fs;
-use std::io::Write;
 use std::path::{Path, PathBuf};
 
 use differential::differences::{
-    Example, Fault, Proved, check, check_risks, examples, named_tests, tests_in,
+    Fault, by_library, check_each, check_risks, examples, named_tests, tests_in,
 };
-use differential::generate::BENCH_PROFILE;
 use differential::probe::probe_shape_of_name;
+use differential::suite::print;
+use redstone::BENCH_PROFILE_WITH_BULB;
 
 const DOCUMENT: &str = "docs/DIFFERENCES.md";
 
@@ -21,21 +21,13 @@ fn document() -> String {
     fs::read_to_string(in_repository(DOCUMENT)).unwrap_or_else(|error| panic!("{DOCUMENT}: {error}"))
 }
 
-/// The number of tables that were checked.
-fn check_each(document: &str, check: impl Fn(&Example) -> Result<(), Fault>) -> Result<usize, Fault> {
-    let examples = examples(document)?;
-    examples.iter().try_for_each(check)?;
-    Ok(examples.len())
-}
-
 fn check_proved(document: &str) -> Result<usize, Fault> {
-    check_each(document, |example| check(example, || Proved::new(example.case())))
+    check_each(document, by_library)
 }
 
 fn assert_checked(bench: &str, checked: Result<usize, Fault>) {
     let tables = checked.unwrap_or_else(|fault| panic!("{DOCUMENT}, {bench}: {fault}"));
-    writeln!(std::io::stdout(), "\n{DOCUMENT}, {bench}: {tables} tables")
-        .expect("standard output can be written");
+    print(&format!("{DOCUMENT}, {bench}: {tables} tables"));
 }
 
 #[test]
@@ -46,14 +38,7 @@ fn the_bench_answers_as_is_written() {
 #[cfg(not(no_original))]
 #[test]
 fn the_original_answers_as_is_written() {
-    use differential::differences::Original;
-    use differential::oracle::Oracle;
-
-    let checked = check_each(&document(), |example| {
-        let case = example.case();
-        let oracle = Oracle::new(&case);
-        check(example, || Original::new(&oracle))
-    });
+    let checked = check_each(&document(), differential::differences::by_original);
     assert_checked("original", checked);
 }
 
@@ -83,18 +68,18 @@ fn every_written_answer_counts() {
 fn every_written_profile_counts() {
     let document = document();
     let mut examples = examples(&document).unwrap_or_else(|fault| panic!("{fault}"));
-    examples.retain(|example| example.table.profile != BENCH_PROFILE);
+    examples.retain(|example| example.table.profile != BENCH_PROFILE_WITH_BULB);
     assert!(!examples.is_empty(), "{DOCUMENT} has no profile");
     for mut example in examples {
-        example.table.profile = BENCH_PROFILE;
-        assert!(check(&example, || Proved::new(example.case())).is_err(), "{}", example.table);
+        example.table.profile = BENCH_PROFILE_WITH_BULB.to_vec();
+        assert!(by_library(&example).is_err(), "{}", example.table);
     }
 }
 
 #[test]
 fn every_entry_has_its_risk() {
     let entries = check_risks(&document()).unwrap_or_else(|fault| panic!("{DOCUMENT}: {fault}"));
-    writeln!(std::io::stdout(), "\n{DOCUMENT}: {entries} entries").expect("standard output can be written");
+    print(&format!("{DOCUMENT}: {entries} entries"));
 }
 
 /// The name of entry 29, which no table has.
@@ -106,7 +91,7 @@ fn stained_glass_by_name_is_plain() {
     #[cfg(not(no_original))]
     {
         use differential::compare::Answers;
-        use differential::generate::Case;
+        use differential::generate::{BENCH_PROFILE, Case};
         use differential::oracle::Oracle;
         use differential::world::{Name, WorldQuery};
 
@@ -227,7 +212,7 @@ const FAULTS_WHEN_SETTLED: [Change; 26] = [
     ("row=0,0,0,0,0,0\n```", "row=0,0,0,0,0,0\n"),
 ];
 
-const FAULTS_IN_A_PROFILE: [Change; 9] = [
+const FAULTS_IN_A_PROFILE: [Change; 10] = [
     ("profile Solid=4 RedstoneTorch=32\n", ""),
     ("profile Solid=4 RedstoneTorch=32", "profile RedstoneTorch=32 Solid=4"),
     ("profile Solid=4 RedstoneTorch=32", "profile=0,4,0,0,32"),
@@ -237,6 +222,7 @@ const FAULTS_IN_A_PROFILE: [Change; 9] = [
     ),
     ("RedstoneTorch=32", "RedstoneTorch=31"),
     ("RedstoneTorch=32", "RedstoneTorch=64"),
+    ("RedstoneTorch=32", "RedstoneTorch=32 CopperBulb=32"),
     ("RedstoneTorch=32", "Lever=32"),
     ("RedstoneTorch=32", "Torch=32"),
     ("Solid=4 ", ""),

@@ -17,10 +17,10 @@ mod compared {
     use std::path::Path;
     use std::process::{Command, Stdio};
 
-    use differential::generate::{BENCH_PROFILE, Case, TORCH};
+    use differential::generate::{BENCH_PROFILE, BENCH_PROFILE_WITH_BULB, Case, TORCH};
     use differential::month::{Ended, Figures, MOST_TABLES, Month, expected, stream};
     use differential::program::{find, run, run_bytewise};
-    use differential::suite::{at_least_good_cases, good_cases, with_damaged};
+    use differential::suite::{at_least_good_cases, good_cases, print, with_damaged};
     use redstone::{Kind, MOST_ROWS, PROFILE_BYTES, ROW_BYTES, Row};
 
     fn program() -> OsString {
@@ -66,16 +66,21 @@ mod compared {
         tables.filter(has_count).collect()
     }
 
-    /// A stream takes the tables of so many cases, and the profile of the first.
+    /// A stream takes the tables of so many cases.
     const CASES_OF_A_STREAM: usize = 50;
+
+    /// The first 13 bytes of the first's: the month count has no more.
+    fn profile(cases: &[Case]) -> &[u8] {
+        &cases[0].profile[..PROFILE_BYTES]
+    }
 
     /// Every number of rounds, every level and a refused table are among them.
     #[test]
     fn the_figures_are_the_sums_by_the_original() {
-        let cases: Vec<_> = at_least_good_cases(6_000).collect();
+        let cases: Vec<_> = at_least_good_cases(9_000).collect();
         let (mut streams, mut charging, mut sum) = (0, 0, Figures::default());
         for cases in cases.chunks(CASES_OF_A_STREAM) {
-            let stream = stream(&cases[0].profile, tables(cases));
+            let stream = stream(profile(cases), tables(cases));
             let month = Month::of(&stream).expect("a good profile");
             assert_same(&written(&stream), &month.to_string(), &stream);
             assert_eq!(month.ended, Ended::Whole);
@@ -84,11 +89,10 @@ mod compared {
             charging += usize::from(cases[0].torch_charges_above());
         }
         let Figures { tables, refused, rounds, levels } = sum;
-        let counts = format!(
-            "{streams} streams, {charging} with value 32, {tables} tables settled, {refused} refused"
-        );
-        writeln!(std::io::stdout(), "\nmonth: {counts}\n  rounds {rounds:?}\n  levels {levels:?}")
-            .expect("standard output can be written");
+        print(&format!(
+            "month: {streams} streams, {charging} with value 32, {tables} tables settled, {refused} refused\n  \
+             rounds {rounds:?}\n  levels {levels:?}"
+        ));
         assert!(refused > 0, "no table was refused");
         assert!((1..streams).contains(&charging), "value 32 in {charging} of {streams} streams");
         assert!(!rounds.contains(&0), "a number of rounds is missing: {rounds:?}");
@@ -116,6 +120,19 @@ mod compared {
     /// Settled and refused tables, with and without rows.
     fn short_tables() -> Vec<Vec<u8>> {
         vec![Case::line("", 2).table, bad_row(), Vec::new(), misplaced(), source_and_dust(3)]
+    }
+
+    /// Its profile has no byte for the bulb.
+    #[test]
+    fn a_table_with_a_bulb_is_refused() {
+        let bulb = redstone::table([Row::new(Kind::CopperBulb, [0; 3])]);
+        for tables in [vec![&bulb], vec![&bulb; 3]] {
+            assert_ends(&stream(&BENCH_PROFILE, &tables), 0, tables.len(), "whole");
+        }
+        assert_ends(&stream(&BENCH_PROFILE, [source_and_dust(2), bulb, source_and_dust(3)]), 2, 1, "whole");
+        // The byte after the thirteenth is the low one of a row count.
+        assert_ends(&stream(&BENCH_PROFILE_WITH_BULB, [[0; 0]]), 0, 0, "cut");
+        assert_ends(&[&BENCH_PROFILE[..], &[0; 4]].concat(), 1, 0, "whole");
     }
 
     #[test]
@@ -252,7 +269,7 @@ mod compared {
     fn the_figures_of_streams_add_up() {
         let cases: Vec<_> = good_cases(400).collect();
         for cases in cases.chunks(2 * CASES_OF_A_STREAM) {
-            let profile = &cases[0].profile;
+            let profile = profile(cases);
             let (one, other) = cases.split_at(cases.len() / 2);
             let (one, other) = (stream(profile, tables(one)), stream(profile, tables(other)));
             let longer = [&other[..], &[255; 4]].concat();
@@ -297,7 +314,7 @@ mod compared {
     #[test]
     fn months_are_added_up_by_the_script() {
         let cases: Vec<_> = good_cases(150).collect();
-        let profile = &cases[0].profile;
+        let profile = profile(&cases);
         let parts: Vec<_> = cases.chunks(CASES_OF_A_STREAM).map(tables).collect();
         let streams: Vec<_> = parts.iter().map(|tables| stream(profile, tables)).collect();
         let counts: Vec<_> = streams.iter().map(|stream| written(stream)).collect();

@@ -112,10 +112,9 @@ mod compared {
             let oracle = Oracle::new(&case);
             let mut whole = oracle.started();
             for _ in 0..12 {
-                let mut stepped = oracle.simulator(&oracle.packed(&whole));
-                let settled = stepped.get_mut().advance_tick().unwrap();
-                assert_eq!(settled.strengths, whole.get_mut().advance_tick().unwrap().strengths, "{case}");
-                assert_eq!(oracle.packed(&stepped), oracle.packed(&whole), "{case}");
+                let mut stepped = oracle.simulator(&whole.packed());
+                assert_eq!(stepped.tick(1), whole.tick(1), "{case}");
+                assert_eq!(stepped.packed(), whole.packed(), "{case}");
             }
         }
     }
@@ -140,7 +139,7 @@ mod compared {
         assert_eq!([0, 1, 2, u32::MAX].map(|ticks| tick(ticks).refusal()), [None, None, Some(9), Some(9)]);
         let parts = Parts { tick: u32::MAX.into(), ..Parts::default() };
         let simulator = |world: &World| RedstoneTickSimulator::from_parts(world.clone(), parts).unwrap();
-        let mut original = world(BENCH_PROFILE, &[]).map(simulator);
+        let mut original = world(&BENCH_PROFILE, &[]).map(simulator);
         assert_eq!(original.get_mut().advance_tick().unwrap().tick, 1 << 32);
     }
 

@@ -10,8 +10,7 @@ use redstone_text::Table;
 fn generated_tables_are_equal_after_they_are_written_and_read() {
     let mut fields = BTreeSet::new();
     for case in good_cases(20_000) {
-        let profile = case.profile[..].try_into().expect("an accepted profile");
-        let table = Table { profile, rows: table::rows(&case.table) };
+        let table = Table { profile: case.profile.clone(), rows: table::rows(&case.table) };
         let text = table.to_string();
         let read: Table = text.parse().unwrap_or_else(|error| panic!("{error} of\n{text}"));
         assert_eq!(read, table, "{text}");

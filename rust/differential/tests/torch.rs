@@ -1,27 +1,21 @@
 //! The charge of the block above a torch, against document 02's Change 3.
 
-use std::io::Write;
-
 use differential::compare::{compare, run};
-use differential::differences::{Example, Fault, Proved, check, examples};
-use differential::generate::{self, BENCH_PROFILE, Case, TORCH};
+use differential::differences::{Example, Fault, by_library, check_each};
+use differential::generate::{self, BENCH_PROFILE_WITH_BULB, Case, TORCH};
 use differential::probe::{Probe, probe_check};
-use differential::suite::{assert_compared, at_least_good_cases};
+use differential::suite::{assert_compared, at_least_good_cases, print};
 use differential::table;
 use differential::torch::{
     BYTES, MISREADINGS, Misreading, Pair, Reading, TRIALS, Trial, charge, pairs, profile, queries, torches,
 };
-use redstone::{Circuit, Kind, PROFILE_BYTES, Row, Settled, Shape};
+use redstone::{Circuit, Kind, PROFILE_BYTES, PROFILE_BYTES_WITH_BULB, Row, Settled, Shape};
 
 const LIMIT: u32 = 128;
 const GENERATED_TABLES: u64 = 20_000;
 /// Tables on which all four calls are asked.
 #[cfg(not(no_original))]
 const CALLED_TABLES: u64 = 3_000;
-
-fn print(text: &str) {
-    writeln!(std::io::stdout(), "\n{text}").expect("standard output can be written");
-}
 
 fn circuit(case: &Case) -> Circuit {
     Circuit::from_table(&case.profile, &case.table[..]).unwrap_or_else(|refusal| panic!("{refusal}\n{case}"))
@@ -33,27 +27,20 @@ fn settled(case: &Case, devices: &[u8]) -> Settled {
 
 /// Every table of the trials, by every byte.
 fn trial_cases() -> impl Iterator<Item = Case> {
-    TRIALS.iter().flat_map(|trial| BYTES.map(|byte| trial.case(byte)))
+    TRIALS.iter().flat_map(|trial| BYTES.into_iter().flat_map(|byte| trial.cases(byte)))
 }
 
 /// A trial by bytes that change nothing but the value, each with the answers that are written.
-fn documents(trial: &Trial) -> [String; 4] {
-    let document = |(byte, run)| format!("```table\n{}```\n```run\n{run}```\n", trial.table(byte));
-    [(0, trial.without), (1, trial.without), (32, trial.with), (33, trial.with)].map(document)
-}
-
-fn check_document(document: &str, check: impl Fn(&Example) -> Result<(), Fault>) -> Result<(), Fault> {
-    examples(document)?.iter().try_for_each(check)
-}
-
-fn check_proved(example: &Example) -> Result<(), Fault> {
-    check(example, || Proved::new(example.case()))
+fn documents(trial: &Trial) -> impl Iterator<Item = String> {
+    let runs = [(0, trial.without), (1, trial.without), (32, trial.with), (33, trial.with)];
+    let tables = runs.into_iter().flat_map(|(byte, run)| trial.tables(byte).map(|table| (table, run)));
+    tables.map(|(table, run)| format!("```table\n{table}```\n```run\n{run}```\n"))
 }
 
 fn assert_written(check: impl Fn(&Example) -> Result<(), Fault>) {
     for trial in &TRIALS {
         for document in documents(trial) {
-            let checked = check_document(&document, &check);
+            let checked = check_each(&document, &check);
             checked.unwrap_or_else(|fault| panic!("{}: {fault} of\n{document}", trial.what));
         }
     }
@@ -61,7 +48,7 @@ fn assert_written(check: impl Fn(&Example) -> Result<(), Fault>) {
 
 #[test]
 fn trials_answer_as_is_written() {
-    assert_written(check_proved);
+    assert_written(by_library);
 }
 
 /// The answers with the value in the place of those without, and the other way round. In four trials they are the same.
@@ -69,26 +56,22 @@ fn trials_answer_as_is_written() {
 fn exchanged_answers_are_reported() {
     let mut same = 0;
     for trial in &TRIALS {
-        let exchanged = documents(&Trial { with: trial.without, without: trial.with, ..*trial });
+        let exchanged = Trial { with: trial.without, without: trial.with, ..*trial };
         let is_same = trial.with == trial.without;
-        for document in exchanged {
-            assert_eq!(
-                check_document(&document, check_proved).is_ok(),
-                is_same,
-                "{}:\n{document}",
-                trial.what
-            );
+        for document in documents(&exchanged) {
+            assert_eq!(check_each(&document, by_library).is_ok(), is_same, "{}:\n{document}", trial.what);
         }
         same += usize::from(is_same);
     }
     assert_eq!(same, 4);
 }
 
-/// Under the bench profile plain solid blocks and lamps do, and double slabs of every kind; a torch does by value 4 of its
-/// byte.
+/// Under the bench profile plain solid blocks, lamps and bulbs do, and double slabs of every kind; a torch does by value 4
+/// of its byte.
 fn receives_strong(over: Row, byte: u8) -> bool {
     match (over.shape(), over.kind()) {
-        (Shape::DoubleSlab, _) | (Shape::Plain, Kind::Solid | Kind::RedstoneLamp) => true,
+        (Shape::DoubleSlab, _) => true,
+        (Shape::Plain, Kind::Solid | Kind::RedstoneLamp | Kind::CopperBulb) => true,
         (Shape::Plain, Kind::RedstoneTorch) => [31, 36, 63].contains(&byte),
         _ => false,
     }
@@ -119,9 +102,9 @@ fn every_torch_under_every_block_is_as_by_hand() {
         tables += 1;
     }
     let torches = torches().count();
-    assert_eq!([torches, tables], [7 * 7 * 3, torches * (12 * 7 + 1) * 6]);
-    // Fourteen blocks receive strong power, and by bytes 36 and 63 a torch, too. Of three fresh torches two are lit.
-    let lit = torches * (2 * 14 + 2 * 15);
+    assert_eq!([torches, tables], [7 * 7 * 3, torches * (13 * 7 + 1) * 6]);
+    // Sixteen blocks receive strong power, and by bytes 36 and 63 a torch, too. Of three fresh torches two are lit.
+    let lit = torches * (2 * 16 + 2 * 17);
     assert_eq!(charged, [lit, lit / 3 * 2, 0]);
     print(&format!("torch, every pair by hand: {tables} tables, a block charged in {charged:?}"));
 }
@@ -165,24 +148,28 @@ fn no_block_is_charged_but_the_one_above() {
     assert_eq!(charged, torches().count());
 }
 
+/// By profiles of 13 bytes and of 14.
 #[test]
 fn the_torchs_byte_alone_reaches_63() {
-    let mut refused = [0; PROFILE_BYTES];
-    for (kind, refused) in refused.iter_mut().enumerate() {
-        for byte in 0..=u8::MAX {
-            let mut profile = BENCH_PROFILE;
-            profile[kind] = byte;
-            let most = match kind {
-                0 => 0,
-                TORCH => 63,
-                _ => 31,
-            };
-            let answer = probe_check(&profile, &[]);
-            assert_eq!(answer, if byte <= most { 0 } else { 65_536 }, "{profile:?}");
-            *refused += usize::from(answer > 0);
+    for bytes in [PROFILE_BYTES, PROFILE_BYTES_WITH_BULB] {
+        let mut refused = vec![0; bytes];
+        for (kind, refused) in refused.iter_mut().enumerate() {
+            for byte in 0..=u8::MAX {
+                let mut profile = BENCH_PROFILE_WITH_BULB;
+                profile[kind] = byte;
+                let most = match kind {
+                    0 => 0,
+                    TORCH => 63,
+                    _ => 31,
+                };
+                let answer = probe_check(&profile[..bytes], &[]);
+                assert_eq!(answer, if byte <= most { 0 } else { 65_536 }, "{profile:?}");
+                *refused += usize::from(answer > 0);
+            }
         }
+        let expected = [255, 224, 224, 224, 192, 224, 224, 224, 224, 224, 224, 224, 224, 224];
+        assert_eq!(refused, expected[..bytes]);
     }
-    assert_eq!(refused, [255, 224, 224, 224, 192, 224, 224, 224, 224, 224, 224, 224, 224]);
 }
 
 /// The strong columns of generated tables, and how many blocks of them the value charges.
@@ -237,12 +224,12 @@ fn the_original_was_not_found() {
 mod compared {
     use differential::compare::{Answers, Tally};
     use differential::devices::any_devices;
-    use differential::differences::Original;
+    use differential::differences::by_original;
     use differential::oracle::{Oracle, pos};
     use differential::random::Random;
     use differential::redstone::{
-        Call, Input, OriginalRun, ProvedRun, STRONG, Step, compare_case, device_outputs, fresh_devices,
-        queries as calls_on,
+        Call, Input, OriginalRun, ProvedRun, STRONG, compare_case, device_outputs, fresh_devices,
+        hundred_ticks, queries as calls_on,
     };
     use original::electrical::DeviceOutputState;
     use original::unpatched;
@@ -252,20 +239,7 @@ mod compared {
 
     #[test]
     fn trials_answer_as_is_written_by_the_original() {
-        assert_written(|example| {
-            let case = example.case();
-            let oracle = Oracle::new(&case);
-            check(example, || Original::new(&oracle))
-        });
-    }
-
-    /// A hundred ticks, one by one, of which the fiftieth is followed by the throw of every lever.
-    fn steps(rows: &[Row]) -> Vec<Step> {
-        let levers = rows.iter().filter(|row| row.kind() == Kind::Lever);
-        let throws =
-            levers.map(|row| Step::Switch { at: row.position(), powered: row.powered() != Some(true) });
-        let ticks = [Step::Ticks(1); 50];
-        [Step::Fresh].into_iter().chain(ticks).chain(throws).chain(ticks).collect()
+        assert_written(by_original);
     }
 
     /// States, tables and columns after every step.
@@ -273,10 +247,10 @@ mod compared {
     fn trials_agree_with_the_original_for_a_hundred_ticks() {
         let compared = run(trial_cases(), |case, tally| {
             let oracle = Oracle::new(case);
-            compare(steps(&oracle.rows), &OriginalRun::new(&oracle), &ProvedRun::new(case, false), tally)
+            compare(hundred_ticks(&oracle), &OriginalRun::new(&oracle), &ProvedRun::new(case, false), tally)
         });
         let tally = assert_compared("torch, a hundred ticks", compared);
-        let tables = (TRIALS.len() * BYTES.len()) as u64;
+        let tables = (2 * TRIALS.len() * BYTES.len()) as u64;
         assert_eq!([tally.tables.values().sum(), tally.comparisons["tick"]], [tables, 100 * tables]);
     }
 
@@ -284,7 +258,7 @@ mod compared {
     fn calls(oracle: &Oracle) -> Vec<Call> {
         let rows = oracle.rows.len();
         let settle = |lit| Input::Settle { devices: [lit, 0][..rows].to_vec(), limit: LIMIT };
-        let state = oracle.packed(&oracle.started());
+        let state = oracle.started().packed();
         let tick = |ticks| Input::Tick { state: state.clone(), tick: 0, ticks };
         let switch = Input::Switch { state: state.clone(), at: [0; 3], powered: false };
         let fresh = Input::Fresh { state_bytes: STATE_BYTES * rows };

@@ -8,7 +8,7 @@ fn the_original_was_not_found() {
 
 #[cfg(not(no_original))]
 mod compared {
-    use differential::generate::{BENCH_PROFILE, Case};
+    use differential::generate::{BENCH_PROFILE_WITH_BULB, Case};
     use differential::probe::probe_offset;
     use differential::suite::{assert_agrees, assert_alterations_reported, good_cases, panics, with_damaged};
     use differential::world::{ALTERATIONS, compare_case};
@@ -25,7 +25,7 @@ mod compared {
         let shapes =
             |kind: &'static Kind| Shape::ALL.iter().map(|shape| Row::new(*kind, [0; 3]).with_shape(*shape));
         let rows = Kind::ALL.iter().flat_map(shapes);
-        let cases = rows.flat_map(|row| (0..=most(row.kind())).map(move |bits| one_row(row, bits)));
+        let cases = rows.flat_map(|row| (0..=most(row.kind())).flat_map(move |bits| one_row(row, bits)));
         assert_agrees("single blocks", cases, compare_case);
     }
 
@@ -34,10 +34,12 @@ mod compared {
         if kind == Kind::RedstoneTorch { 63 } else { 31 }
     }
 
-    fn one_row(row: Row, bits: u8) -> Case {
-        let mut profile = BENCH_PROFILE;
+    /// With a byte for the bulb, and without where the row is no bulb.
+    fn one_row(row: Row, bits: u8) -> Vec<Case> {
+        let mut profile = BENCH_PROFILE_WITH_BULB;
         profile[usize::from(row.kind().code())] = bits;
-        Case::new("one block", profile, [row])
+        let lengths = if row.kind() == Kind::CopperBulb { &[14][..] } else { &[13, 14] };
+        lengths.iter().map(|length| Case::new("one block", &profile[..*length], [row])).collect()
     }
 
     /// The original's sum overflows: it panics, or wraps where overflow is not checked.

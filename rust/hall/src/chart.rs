@@ -17,7 +17,7 @@ const LEGEND_OF_LEVELS: &str =
 pub fn chart(run: &Run) -> String {
     let lanes = run.lanes();
     if lanes.is_empty() {
-        return "There is no repeater, torch, comparator or lamp.\n".to_owned();
+        return "There is no repeater, torch, comparator, lamp or bulb.\n".to_owned();
     }
     let width = lanes.iter().map(|lane| lane.label.chars().count()).max().unwrap_or(0);
     let mut text = String::new();
@@ -104,6 +104,16 @@ mod tests {
         assert_eq!(chart_of(text, 11), lines.join("\n"));
     }
 
+    /// After the lamps, and as they are.
+    #[test]
+    fn a_bulb_has_its_line() {
+        let text = "0,0,0 CopperBulb\n0,1,0 Lever support=0,-1,0\n9,0,0 RedstoneLamp\nswitch tick 1 0,1,0 on\n\
+                    switch tick 3 0,1,0 off\nswitch tick 5 0,1,0 on\n";
+        let chart = chart_of(text, 8);
+        let lines: Vec<_> = chart.lines().skip(2).take(3).collect();
+        assert_eq!(lines, ["lever 0,1,0  ./-\\./---", "lamp 9,0,0   .........", "bulb 0,0,0   ../---\\.."]);
+    }
+
     #[test]
     fn a_long_run_stands_in_parts() {
         let chart = chart_of("0,0,0 Lever\n1,0,0 RedstoneLamp\n", 120);
@@ -114,6 +124,6 @@ mod tests {
 
     #[test]
     fn no_device_is_said() {
-        assert_eq!(chart_of("0,0,0 Solid\n", 3), "There is no repeater, torch, comparator or lamp.\n");
+        assert_eq!(chart_of("0,0,0 Solid\n", 3), "There is no repeater, torch, comparator, lamp or bulb.\n");
     }
 }

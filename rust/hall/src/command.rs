@@ -64,7 +64,7 @@ pub const SWITCH: Choice = Choice {
 pub const PROFILE: Choice = Choice {
     name: "--profile",
     value: "FILE",
-    help: "takes the profile from FILE, 13 bytes or a line `profile Solid=31 ..`, and not from the hall",
+    help: "takes the profile from FILE, 13 or 14 bytes or a line `profile Solid=31 ..`, and not from the hall",
     may_repeat: false,
 };
 

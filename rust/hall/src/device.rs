@@ -40,6 +40,10 @@ pub const SORTS: &[Sort] = &[
         kind: Kind::RedstoneLamp,
         states: States::Two { words: ["dark", "lit"], verbs: ["goes out", "lights up"] },
     },
+    Sort {
+        kind: Kind::CopperBulb,
+        states: States::Two { words: ["dark", "lit"], verbs: ["flips off", "flips on"] },
+    },
 ];
 
 /// The place of a kind among the devices.
@@ -51,7 +55,7 @@ pub fn place(kind: Kind) -> Option<usize> {
 pub fn given(device: Device) -> Option<u8> {
     match device {
         Device::None => None,
-        Device::Lamp { lit, .. } => Some(lit.into()),
+        Device::Lamp { lit, .. } | Device::Bulb { lit, .. } => Some(lit.into()),
         device => Some(device.byte()),
     }
 }

@@ -111,4 +111,23 @@ mod tests {
         assert_eq!(of_tick(10)[1..], ["comparator 5,0,1 goes from 15 to 0", "repeater 6,0,0 goes off"]);
         assert_eq!(of_tick(12)[1..], ["lamp 7,0,0 goes out"]);
     }
+
+    #[test]
+    fn a_bulb_flips() {
+        let text = "0,0,0 CopperBulb\n0,1,0 Lever support=0,-1,0\nswitch tick 1 0,1,0 on\nswitch tick 2 0,1,0 off\n\
+                    switch tick 5 0,1,0 on\n";
+        let hall = Hall::from_text("a.hall", text, None).expect("a hall");
+        let events = events(&Run::new(&hall, 9).expect("an accepted table"));
+        let said: Vec<_> = events.iter().map(|event| format!("{} {event}", event.tick)).collect();
+        assert_eq!(
+            said,
+            [
+                "1 lever 0,1,0 is switched on",
+                "2 bulb 0,0,0 flips on",
+                "2 lever 0,1,0 is switched off",
+                "5 lever 0,1,0 is switched on",
+                "6 bulb 0,0,0 flips off"
+            ]
+        );
+    }
 }

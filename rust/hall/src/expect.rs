@@ -5,7 +5,7 @@ use std::fmt::{self, Display, Formatter};
 use redstone::{Kind, Refusal, Rounds, Row};
 use redstone_text::{Error, Line, Word, Words, position_text};
 
-use crate::device::{given, is_candidate};
+use crate::device::is_candidate;
 use crate::hall::Hall;
 use crate::name::{Position, find, kind_name};
 use crate::run::{Frame, Run};
@@ -68,7 +68,13 @@ const SUBJECTS: &[Subject] = &[
         word: "lamp",
         kind: Some(Kind::RedstoneLamp),
         values: Values::Words(["dark", "lit"]),
-        given: |frame, row| given(frame.devices[row]).unwrap_or_default(),
+        given: |frame, row| frame.given(row),
+    },
+    Subject {
+        word: "bulb",
+        kind: Some(Kind::CopperBulb),
+        values: Values::Words(["dark", "lit"]),
+        given: |frame, row| frame.given(row),
     },
     Subject {
         word: "signal",

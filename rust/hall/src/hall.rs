@@ -1,12 +1,15 @@
 //! A hall: a table that the calls accepted, with the switches and the expectations that its file has beside the rows.
 
-use redstone::{Circuit, Fault, Refusal, Row};
+use redstone::{Circuit, Fault, Kind, Refusal, Row};
 use redstone_text::{TableReader, Word, lines};
 
 use crate::Refused;
 use crate::course::Course;
 use crate::expect::{EXPECT, Expectation};
 use crate::switch::{SWITCH, Switch, check_place};
+
+/// What is said of a file that is refused in the packed form.
+pub(crate) const PACKED: &str = "it was taken for the packed form, since it has a zero byte";
 
 /// A hall.
 #[derive(Clone, Debug)]
@@ -69,10 +72,8 @@ impl Hall {
     ///
     /// The profile or the table is refused.
     pub fn from_packed(name: &str, profile: &[u8], table: &[u8]) -> Result<Self, Refused> {
-        let fresh = Circuit::from_table(profile, table).map_err(|refusal| {
-            let form = "it was taken for the packed form, since it has a zero byte";
-            Refused::file(name, format!("{refusal} ({form})"))
-        })?;
+        let fresh = Circuit::from_table(profile, table)
+            .map_err(|refusal| Refused::file(name, format!("{} ({PACKED})", sentence(&refusal))))?;
         let rows = fresh.blocks().map(|block| block.row).collect();
         Ok(Self { name: name.to_owned(), fresh, rows, switches: Vec::new(), expectations: Vec::new() })
     }
@@ -105,7 +106,19 @@ fn refused_table(name: &str, refusal: &Refusal, reader: &TableReader) -> Refused
         _ => None,
     };
     match line {
-        Some(line) => Refused::line(name, line, refusal.to_string()),
-        None => Refused::file(name, refusal.to_string()),
+        Some(line) => Refused::line(name, line, sentence(refusal)),
+        None => Refused::file(name, sentence(refusal)),
+    }
+}
+
+/// What a refusal says; and of a bulb without its byte of the profile, how a hall has it.
+fn sentence(refusal: &Refusal) -> String {
+    let bulb = i64::from(Kind::CopperBulb.code());
+    match refusal.fault {
+        // As a kind it is good with a profile that has the byte.
+        Fault::BadRow { field, .. } if field.name() == "kind" && field.value() == bulb => format!(
+            "{refusal} (write CopperBulb=7 into the line `profile`, or give a profile that has it with --profile)"
+        ),
+        _ => refusal.to_string(),
     }
 }

@@ -5,13 +5,14 @@ use std::fs::File;
 use std::io::{self, ErrorKind, Read};
 use std::path::{Path, PathBuf};
 
-use redstone::{Circuit, MOST_ROWS, PROFILE_BYTES, ROW_BYTES};
-use redstone_text::{Profile, TableReader, lines};
+use redstone::{Circuit, MOST_ROWS, PROFILE_BYTES, PROFILE_BYTES_WITH_BULB, ROW_BYTES};
+use redstone_text::{TableReader, lines};
 
+use crate::hall::PACKED;
 use crate::{Hall, Refused};
 
 /// The most bytes that the packed form may have.
-const MOST_PACKED: usize = PROFILE_BYTES + MOST_ROWS * ROW_BYTES;
+const MOST_PACKED: usize = PROFILE_BYTES_WITH_BULB + MOST_ROWS * ROW_BYTES;
 /// The most bytes of text that are read.
 const MOST_TEXT: usize = 4 << 20;
 
@@ -26,18 +27,29 @@ pub fn read(file: &OsStr, profile: Option<&[u8]>) -> Result<Hall, Refused> {
     if !is_packed(&bytes) {
         return Hall::from_text(&name, text(&name, &bytes)?, profile);
     }
-    if bytes.len() > MOST_PACKED {
-        // As the program `settle` has it, before all else.
-        let most = format!("{PROFILE_BYTES} of profile and {MOST_ROWS} rows of {ROW_BYTES}");
-        return Err(Refused::file(
-            &name,
-            format!("refusal 3, crowded: there are more than {MOST_PACKED} bytes, {most}"),
-        ));
-    }
-    let (own, table) = bytes.split_at(bytes.len().min(PROFILE_BYTES));
+    let (own, table) =
+        split_packed(&bytes).map_err(|sentence| Refused::file(&name, format!("{sentence} ({PACKED})")))?;
     // A file that ends within its own profile is refused for that, whatever other profile is given.
-    let profile = profile.filter(|_| own.len() == PROFILE_BYTES).unwrap_or(own);
+    let profile = profile.filter(|_| own.len() >= PROFILE_BYTES).unwrap_or(own);
     Hall::from_packed(&name, profile, table)
+}
+
+/// The profile and the table of the packed form, which the program `settle` tells apart so, too: by the length, before
+/// either is looked at.
+fn split_packed(bytes: &[u8]) -> Result<(&[u8], &[u8]), String> {
+    let length = bytes.len();
+    if length > MOST_PACKED {
+        let most = format!("{PROFILE_BYTES_WITH_BULB} of profile and {MOST_ROWS} rows of {ROW_BYTES}");
+        return Err(format!("refusal 3, crowded: there are more than {MOST_PACKED} bytes, {most}"));
+    }
+    match length % ROW_BYTES {
+        _ if length < PROFILE_BYTES => Ok((bytes, &[])),
+        own @ (PROFILE_BYTES | PROFILE_BYTES_WITH_BULB) => Ok(bytes.split_at(own)),
+        _ => Err(format!(
+            "refusal 2, ragged: there are {length} bytes; they must be {PROFILE_BYTES} of profile, or \
+             {PROFILE_BYTES_WITH_BULB} with the bulb's, and {ROW_BYTES} for each row"
+        )),
+    }
 }
 
 /// Reads a profile: its bytes, or a text with a line `profile`.
@@ -51,7 +63,7 @@ pub fn read_profile(file: &OsStr) -> Result<Vec<u8>, Refused> {
     if !is_packed(&profile) {
         let written = profile_of(text(&name, &profile)?).map_err(|error| Refused::text(&name, &error))?;
         let none = "there is no profile in it: write a line as `profile Solid=31 Piston=1`";
-        profile = written.ok_or_else(|| Refused::file(&name, none))?.to_vec();
+        profile = written.ok_or_else(|| Refused::file(&name, none))?;
     }
     // With no rows the profile is all that can be refused, and here it is known whose fault that is.
     Circuit::new(&profile, []).map_err(|refusal| Refused::file(&name, refusal.to_string()))?;
@@ -59,7 +71,7 @@ pub fn read_profile(file: &OsStr) -> Result<Vec<u8>, Refused> {
 }
 
 /// The profile of a text that has a line `profile` and no other.
-fn profile_of(text: &str) -> Result<Option<Profile>, redstone_text::Error> {
+fn profile_of(text: &str) -> Result<Option<Vec<u8>>, redstone_text::Error> {
     let (mut reader, mut is_given) = (TableReader::new(), false);
     for line in lines(text) {
         match line.words().next() {

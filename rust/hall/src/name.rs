@@ -22,6 +22,7 @@ pub fn kind_name(kind: Kind) -> &'static str {
         Kind::RedstoneLamp => "lamp",
         Kind::RedstoneBlock => "redstone block",
         Kind::Piston => "piston",
+        Kind::CopperBulb => "bulb",
         other => other.name(),
     }
 }

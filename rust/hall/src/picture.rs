@@ -144,6 +144,7 @@ fn letter(kind: Kind) -> &'static str {
         Kind::RedstoneLamp => "L",
         Kind::RedstoneBlock => "B",
         Kind::Piston => "P",
+        Kind::CopperBulb => "U",
         _ => "?",
     }
 }
@@ -185,17 +186,18 @@ mod tests {
         let text = "0,0,0 Solid\n1,0,0 Solid shape=top_slab\n2,0,0 Transparent shape=glass\n3,0,0 RedstoneBlock\n\
                     0,1,0 Lever powered=true support=0,-1,0\n1,1,0 RedstoneWire support=0,-1,0\n2,1,0 RedstoneWire\n\
                     3,1,0 Repeater facing=North powered=true support=0,-1,0\n0,1,1 RedstoneTorch powered=false support=0,0,-1\n\
-                    1,1,1 Comparator facing=West level=12 support=0,-1,0\n2,1,1 RedstoneLamp\n3,1,1 Piston\n";
+                    1,1,1 Comparator facing=West level=12 support=0,-1,0\n2,1,1 RedstoneLamp\n3,1,1 Piston\n\
+                    4,0,1 CopperBulb powered=true\n4,1,1 CopperBulb\n";
         let expected = "\
-y=0, x from 0 to 3
-    0  1    2  3
-z=0 #  #-   %g B
-z=1 .  .    .  .
+y=0, x from 0 to 4
+    0  1    2  3   4
+z=0 #  #-   %g B   .
+z=1 .  .    .  .   U*
 
-y=1, x from 0 to 3
-    0  1    2  3
-z=0 /* f    e! R^*
-z=1 T! C<c! L  P
+y=1, x from 0 to 4
+    0  1    2  3   4
+z=0 /* f    e! R^* .
+z=1 T! C<c! L  P   U
 
 0-f   dust, its level; a to f are 10 to 15
 #     solid block
@@ -207,6 +209,7 @@ L     lamp
 P     piston
 R     repeater
 T     torch
+U     bulb
 ^>v<  faces North, East, South, West
 !     nothing holds it up, by the support list
 *     on, lit

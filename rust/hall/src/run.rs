@@ -85,8 +85,7 @@ impl Frame {
 /// The ticks over which a torch's changes are counted, a bit of its state each.
 const COUNTED_TICKS: usize = 31;
 
-/// The bytes of a state that decide all that follows but the marks of torches: 0 to 3 of each row, and 9, which is 0 for
-/// every kind that there is now.
+/// The bytes of a state that decide all that follows but the marks of torches: 0 to 3 and 9 of each row.
 fn deciding_bytes(state: &[u8]) -> Vec<u8> {
     let rows = state.as_chunks::<STATE_BYTES>().0;
     rows.iter().flat_map(|row| [row[0], row[1], row[2], row[3], row[9]]).collect()
@@ -355,6 +354,23 @@ mod tests {
         let lamp = "0,0,0 RedstoneLamp\n0,1,0 Lever support=0,-1,0\nswitch tick 2 0,1,0 on\n";
         assert_eq!(run(lamp, 20).outlook, Outlook::Still { from: 3 });
         assert_eq!(run(&format!("{lamp}switch tick 6 0,1,0 off\n"), 20).outlook, Outlook::Still { from: 9 });
+    }
+
+    /// Whether it had power is part of what decides, though nothing shows of it.
+    #[test]
+    fn a_bulb_that_loses_its_power_is_not_still() {
+        let bulb = "0,0,0 CopperBulb\n0,1,0 Lever support=0,-1,0\nswitch tick 2 0,1,0 on\n";
+        assert_eq!(run(bulb, 20).outlook, Outlook::Still { from: 3 });
+        assert_eq!(run(&format!("{bulb}switch tick 6 0,1,0 off\n"), 20).outlook, Outlook::Still { from: 7 });
+    }
+
+    /// A bulb halves a clock.
+    #[test]
+    fn a_bulb_at_a_clock_has_a_cycle_of_twice_as_many_ticks() {
+        let run = run(&format!("{CLOCK}1,-1,1 CopperBulb\n"), 20);
+        assert_eq!(run.outlook, Outlook::Cycle { from: 0, ticks: 4 });
+        let bulb = run.rows.iter().position(|row| row.kind() == Kind::CopperBulb).expect("a bulb");
+        assert_eq!((&run.given(bulb)[..8], run.blinks(bulb)), (&[0, 0, 1, 1, 0, 0, 1, 1][..], true));
     }
 
     #[test]

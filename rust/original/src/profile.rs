@@ -5,11 +5,11 @@ use std::cell::Cell;
 use crate::blocks::{BlockBehaviorProfile, UpdateModel};
 use crate::world::BlockProperties;
 
-/// A byte for each kind, from Air on.
-pub type Profile = [u8; 13];
+/// A byte for each kind, from Air on. Where there is none for the bulb it is 0.
+pub type Profile = [u8; 14];
 
 thread_local! {
-    static IN_FORCE: Cell<Profile> = const { Cell::new([0; 13]) };
+    static IN_FORCE: Cell<Profile> = const { Cell::new([0; 14]) };
 }
 
 /// Something of the original's with the profile that it answers by, which is put in force on this thread whenever it is

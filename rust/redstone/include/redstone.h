@@ -17,7 +17,8 @@
  *
  *   0-3, 4-7, 8-11  x, y, z, signed, each from -1000000 to 1000000
  *   12              kind: 1 Solid, 2 Transparent, 3 RedstoneWire (dust), 4 RedstoneTorch, 5 Repeater, 6 Comparator,
- *                   7 Lever, 8 Button, 9 PressurePlate, 10 RedstoneLamp, 11 RedstoneBlock, 12 Piston
+ *                   7 Lever, 8 Button, 9 PressurePlate, 10 RedstoneLamp, 11 RedstoneBlock, 12 Piston, 13 CopperBulb
+ *                   (with a profile of 14 bytes alone)
  *   13              facing: 0 missing, 1 North (0,0,-1), 2 East (1,0,0), 3 South (0,0,1), 4 West (-1,0,0), 5 Up, 6 Down
  *   14              powered: 0 missing, 1 false, 2 true
  *   15, 16          power level given 0/1, its value
@@ -38,12 +39,15 @@
  *   - A torch goes out while the block at its support offset has power. It starts lit, unless powered is false.
  *   - A repeater starts off, unless powered is true. Its delay is in ticks: 1 where none is given or 0 is, 4 above 4.
  *   - A comparator starts with its power level, or where none is given with 15 if powered is true and else with 0.
+ *   - A copper bulb starts dark, unless powered is true. Its light flips each time that power arrives: after a tick
+ *     that leaves it with power, if it had none after the tick before. Power that it has when fresh has arrived.
  *   - Dust takes the arms that no entry is stored for from what stands around it.
  *
- * Profile. 13 bytes, one for each kind from 0 (Air, always 0), a sum of: 1 supports components, 2 receives weak power,
- * 4 receives strong power, 8 repeater reads block power, 16 strong power drives dust. 32 is for RedstoneTorch's alone: a
- * lit torch gives strong power 15 to the block above it, where that receives strong power. The bench profile has it
- * clear.
+ * Profile. 13 bytes, one for each kind from 0 (Air, always 0) to 12, or 14 with CopperBulb's. Each is a sum of:
+ * 1 supports components, 2 receives weak power, 4 receives strong power, 8 repeater reads block power, 16 strong power
+ * drives dust. 32 is for RedstoneTorch's alone: a lit torch gives strong power 15 to the block above it, where that
+ * receives strong power. The bench profile has it clear. With 13 bytes a row of kind 13 is bad; on a table without such
+ * rows a fourteenth byte changes nothing.
  *
  * Devices. A byte a row: repeater powered or torch lit 0/1, comparator 0-255, other kinds 0.
  *
@@ -52,23 +56,25 @@
  *   0     the device byte
  *   1     a repeater's queue, oldest at bit 0, one bit for each tick of its delay (1 if missing, clamped to 1-4); it is
  *         below 2 to the delay, and bit 0 is byte 0
- *   2, 3  lamp lit 0/1; ticks left until a dark lamp goes out, 0-2, 0 if unlit
+ *   2     lamp or bulb lit 0/1
+ *   3     ticks left until a lamp without power goes out, 0-2, 0 if unlit
  *   4-7   a torch's toggles, bit j for a toggle j ticks ago, j from 0 to 30; bit 31 is 0
  *   8     burn-out candidate 0/1, 1 where eight or more toggle bits are set
- *   9-15  0
+ *   9     whether a bulb had power after the last tick 0/1
+ *   10-15 0
  *
  * Signal, weak, strong. A byte a row. The signal is the level that a source or device gives, and a dust's own. Strong
  * power is what levers, buttons, plates, repeaters, comparators, redstone blocks and, by the profile, torches give to a
- * block. Weak power is what dust, and strongly powered neighbours, give to a block. Lamps, torches, repeaters and
- * comparators answer to both; strong power alone drives dust.
+ * block. Weak power is what dust, and strongly powered neighbours, give to a block. Lamps, bulbs, torches, repeaters
+ * and comparators answer to both; strong power alone drives dust.
  *
  * Refusals, tested in this order as far as the call has the input, 4 over all rows before 5, in 6 the length before a
  * value; the row is the first at fault for 4, 5 and a value in 6, and else 0.
  *
- *   1 profile     not 13 bytes, Air not 0, or a byte above 31, the torch's above 63
+ *   1 profile     not 13 bytes nor 14, Air not 0, or a byte above 31, the torch's above 63
  *   2 ragged      table length not a multiple of 32
  *   3 crowded     more than 1024 rows
- *   4 bad row     a field outside the layout
+ *   4 bad row     a field outside the layout, or kind 13 with a profile of 13 bytes
  *   5 misplaced   a position not after the row before
  *   6 bad state   device column or state of wrong length or value
  *   7 column      an output column, or fresh's state, not one entry per row
@@ -89,6 +95,7 @@
 
 /* Sizes. */
 #define REDSTONE_PROFILE_BYTES 13
+#define REDSTONE_PROFILE_BYTES_WITH_BULB 14
 #define REDSTONE_ROW_BYTES 32
 #define REDSTONE_STATE_BYTES 16
 #define REDSTONE_MOST_ROWS 1024
@@ -108,6 +115,7 @@
 #define REDSTONE_KIND_REDSTONE_LAMP 10
 #define REDSTONE_KIND_REDSTONE_BLOCK 11
 #define REDSTONE_KIND_PISTON 12
+#define REDSTONE_KIND_COPPER_BULB 13
 
 /* Byte 13. */
 #define REDSTONE_FACING_NORTH 1
@@ -138,6 +146,10 @@
 /* The bench's own profile, to initialise an array: Solid and RedstoneLamp 31, Transparent and RedstoneBlock 1. */
 #define REDSTONE_BENCH_PROFILE {0, 31, 1, 0, 0, 0, 0, 0, 0, 0, 31, 1, 0}
 
+/* The same and then CopperBulb 7: components stand on a bulb, and power that reaches it counts, but no repeater reads it
+ * and it drives no dust. So the Minecraft Wiki has it, page Copper Bulb: a full block that does not conduct. */
+#define REDSTONE_BENCH_PROFILE_WITH_BULB {0, 31, 1, 0, 0, 0, 0, 0, 0, 0, 31, 1, 0, 7}
+
 #ifdef __cplusplus
 extern "C" {
 #endif
@@ -162,7 +174,7 @@ uint32_t redstone_settle(
     uint8_t *strong, size_t strong_length);
 
 /* Moves `state`, which stands at tick number `tick`, on by `ticks` ticks, of a tenth of a second each, and settles it.
- * Any number of ticks is run, however long it takes. */
+ * Any number of ticks is run, however long it takes; none at all settle it as it is. */
 uint32_t redstone_tick(
     const uint8_t *profile, size_t profile_length,
     const uint8_t *table, size_t table_length,
@@ -173,7 +185,7 @@ uint32_t redstone_tick(
     uint8_t *strong, size_t strong_length);
 
 /* Writes byte 14 of the row at x, y, z, to 1 where `powered` is 0 and else to 2, and settles the table. Where there is
- * no such row it settles the table as it is. */
+ * no such row it settles the table as it is. A bulb flips at the next tick. */
 uint32_t redstone_switch(
     const uint8_t *profile, size_t profile_length,
     uint8_t *table, size_t table_length,

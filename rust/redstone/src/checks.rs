@@ -2,9 +2,10 @@
 //! with which number, is the proved call's to say.
 
 use crate::device::{Device, read_device_byte};
+use crate::table::rows_under;
 use crate::{
-    BadField, Buffer, Fault, Kind, MOST_ROWS, PROFILE_BYTES, ROW_BYTES, Row, STATE_BYTES,
-    TORCH_CHARGES_ABOVE, rows,
+    BadField, Buffer, Fault, Kind, MOST_ROWS, PROFILE_BYTES, PROFILE_BYTES_WITH_BULB, ROW_BYTES, Row,
+    STATE_BYTES, TORCH_CHARGES_ABOVE,
 };
 
 /// The sum of the values that the byte of every kind may have.
@@ -68,13 +69,13 @@ pub(crate) fn supports(profile: &[u8], table: &[u8], list: &[u16]) -> Result<(),
 fn input(profile: &[u8], table: &[u8]) -> Result<Vec<Row>, Fault> {
     check_profile(profile)?;
     check_number(table)?;
-    let rows = rows(table)?;
+    let rows = rows_under(profile.len(), table)?;
     check_order(&rows)?;
     Ok(rows)
 }
 
 fn check_profile(profile: &[u8]) -> Result<(), Fault> {
-    if profile.len() != PROFILE_BYTES {
+    if ![PROFILE_BYTES, PROFILE_BYTES_WITH_BULB].contains(&profile.len()) {
         return Err(Fault::ProfileLength { length: profile.len() });
     }
     for (kind, &value) in (0..).zip(profile) {

@@ -35,6 +35,28 @@ const ACCEPTED: &str = "a table and a state that the calls accepted are within t
 /// assert!(lit(&circuit));
 /// # Ok::<(), redstone::Refusal>(())
 /// ```
+///
+/// A button on a copper bulb, whose light flips each time that power arrives:
+///
+/// ```
+/// use redstone::{BENCH_PROFILE_WITH_BULB, Circuit, Device, Kind, Row};
+///
+/// let (bulb, button) = ([0, 0, 0], [0, 1, 0]);
+/// let mut circuit = Circuit::new(&BENCH_PROFILE_WITH_BULB, [
+///     Row::new(Kind::Button, button).with_support([0, -1, 0]),
+///     Row::new(Kind::CopperBulb, bulb),
+/// ])?;
+/// let mut lights = Vec::new();
+/// for pressed in [true, true, false, true, false] {
+///     circuit.switch(button, pressed)?;
+///     circuit.tick(1)?;
+///     let device = circuit.at(bulb).map(|block| block.device);
+///     lights.push(matches!(device, Some(Device::Bulb { lit: true, .. })));
+/// }
+/// // Power that stays, and power that goes, flip nothing.
+/// assert_eq!(lights, [true, true, true, false, false]);
+/// # Ok::<(), redstone::Refusal>(())
+/// ```
 #[derive(Clone, Debug, Eq, PartialEq)]
 pub struct Circuit {
     profile: Vec<u8>,
@@ -187,7 +209,8 @@ impl Circuit {
         Ok(self.rounds())
     }
 
-    /// Sets whether the block at x, y, z is powered. Where there is none, nothing changes.
+    /// Sets whether the block at x, y, z is powered. Where there is none, nothing changes. No device changes before the
+    /// next tick.
     ///
     /// # Errors
     ///

@@ -128,6 +128,10 @@ coded! {
         RedstoneBlock = 11,
         /// A piston. It does nothing here.
         Piston = 12,
+        /// A copper bulb, a lamp whose light flips each time that power arrives. It needs a profile of 14 bytes, such as
+        /// [`BENCH_PROFILE_WITH_BULB`](crate::BENCH_PROFILE_WITH_BULB), by which it supports components and takes all
+        /// power, and gives none to repeaters and dust.
+        CopperBulb = 13,
     }
 }
 

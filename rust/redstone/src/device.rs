@@ -5,11 +5,12 @@ use crate::{Kind, Row, STATE_BYTES};
 
 const DEVICE: Field = Field { name: "device", at: 0 };
 const QUEUE: Field = Field { name: "queue", at: 1 };
-const LIT: Field = Field { name: "lamp lit", at: 2 };
+const LIT: Field = Field { name: "lit", at: 2 };
 const TICKS_LEFT: Field = Field { name: "ticks left", at: 3 };
 const TOGGLES: Field = Field { name: "toggles", at: 4 };
 const CANDIDATE: Field = Field { name: "candidate", at: 8 };
-const UNUSED: usize = 9;
+const HAD_POWER: Field = Field { name: "had power", at: 9 };
+const UNUSED: usize = 10;
 
 /// A torch that has toggled this often is a candidate.
 const MANY_TOGGLES: u32 = 8;
@@ -62,6 +63,13 @@ pub enum Device {
         /// How many ticks a lit lamp without power stays lit, from 2 down; 0 with power.
         ticks_left: u8,
     },
+    /// A copper bulb. A tick that leaves it with power flips its light, unless it had power before.
+    Bulb {
+        /// Whether it is lit.
+        lit: bool,
+        /// Whether it had power after the last tick; in a fresh state, whether it has power.
+        had_power: bool,
+    },
 }
 
 impl Device {
@@ -74,8 +82,9 @@ impl Device {
         let kind = row.kind();
         let device = read_device_byte(kind, DEVICE.byte(bytes))?;
         let queue = read_queue(row, bytes, device)?;
-        let (lit, ticks_left) = read_lamp(kind, bytes)?;
+        let (lit, ticks_left) = read_light(kind, bytes)?;
         let (toggles, candidate) = read_torch(kind, bytes)?;
+        let had_power = read_had_power(kind, bytes)?;
         for at in UNUSED..STATE_BYTES {
             Field { name: "unused", at }.zero(bytes, Allowed::Rule("it must be 0"))?;
         }
@@ -84,6 +93,7 @@ impl Device {
             Kind::RedstoneTorch => Self::Torch { lit: device != 0, toggles, candidate },
             Kind::Comparator => Self::Comparator { level: device },
             Kind::RedstoneLamp => Self::Lamp { lit, ticks_left },
+            Kind::CopperBulb => Self::Bulb { lit, had_power },
             _ => Self::None,
         })
     }
@@ -103,6 +113,10 @@ impl Device {
                 bytes[LIT.at] = lit.into();
                 bytes[TICKS_LEFT.at] = ticks_left;
             }
+            Self::Bulb { lit, had_power } => {
+                bytes[LIT.at] = lit.into();
+                bytes[HAD_POWER.at] = had_power.into();
+            }
             Self::Comparator { .. } | Self::None => {}
         }
         bytes
@@ -115,7 +129,7 @@ impl Device {
             Self::Repeater { powered, .. } => powered.into(),
             Self::Torch { lit, .. } => lit.into(),
             Self::Comparator { level } => level,
-            Self::Lamp { .. } | Self::None => 0,
+            Self::Lamp { .. } | Self::Bulb { .. } | Self::None => 0,
         }
     }
 }
@@ -146,18 +160,28 @@ fn read_queue(row: &Row, bytes: &[u8], device: u8) -> Result<u8, BadField> {
     }
 }
 
-fn read_lamp(kind: Kind, bytes: &[u8]) -> Result<(bool, u8), BadField> {
+/// Whether a lamp or bulb is lit, and a lamp's ticks left.
+fn read_light(kind: Kind, bytes: &[u8]) -> Result<(bool, u8), BadField> {
+    let lit = match kind {
+        Kind::RedstoneLamp | Kind::CopperBulb => LIT.flag(bytes)?,
+        _ => {
+            LIT.zero(bytes, Allowed::Rule("it must be 0, as the row is no lamp or bulb"))?;
+            false
+        }
+    };
     if kind != Kind::RedstoneLamp {
-        let rule = Allowed::Rule("it must be 0, as the row is no lamp");
-        LIT.zero(bytes, rule)?;
-        TICKS_LEFT.zero(bytes, rule)?;
-        return Ok((false, 0));
-    }
-    let lit = LIT.flag(bytes)?;
-    if !lit {
+        TICKS_LEFT.zero(bytes, Allowed::Rule("it must be 0, as the row is no lamp"))?;
+    } else if !lit {
         TICKS_LEFT.zero(bytes, Allowed::ZeroWith(LIT))?;
     }
     Ok((lit, TICKS_LEFT.within(TICKS_LEFT.byte(bytes), 0, 2)?))
+}
+
+fn read_had_power(kind: Kind, bytes: &[u8]) -> Result<bool, BadField> {
+    if kind != Kind::CopperBulb {
+        HAD_POWER.zero(bytes, Allowed::Rule("it must be 0, as the row is no bulb"))?;
+    }
+    HAD_POWER.flag(bytes)
 }
 
 fn read_torch(kind: Kind, bytes: &[u8]) -> Result<(u32, bool), BadField> {

@@ -3,7 +3,9 @@
 use std::error::Error;
 use std::fmt::{self, Display, Formatter};
 
-use crate::{BadField, Kind, MOST_ROWS, PROFILE_BYTES, ROW_BYTES, Rounds, TORCH_CHARGES_ABOVE};
+use crate::{
+    BadField, Kind, MOST_ROWS, PROFILE_BYTES, PROFILE_BYTES_WITH_BULB, ROW_BYTES, Rounds, TORCH_CHARGES_ABOVE,
+};
 
 /// What exactly is wrong with an input. Its message says what would be right.
 #[derive(Clone, Copy, Debug, Eq, Hash, PartialEq)]
@@ -33,7 +35,7 @@ pub enum Fault {
         /// How many it has.
         rows: usize,
     },
-    /// 4: a row has a field outside the layout.
+    /// 4: a row has a field outside the layout, or is a bulb under a profile of 13 bytes.
     BadRow {
         /// The row's number.
         row: usize,
@@ -156,7 +158,8 @@ impl Display for Fault {
     fn fmt(&self, f: &mut Formatter<'_>) -> fmt::Result {
         match *self {
             Self::ProfileLength { length } => {
-                write!(f, "the profile has length {length}; it must be {PROFILE_BYTES}")
+                write!(f, "the profile has length {length}; it must be {PROFILE_BYTES}")?;
+                write!(f, ", or {PROFILE_BYTES_WITH_BULB} with the bulb's byte")
             }
             Self::ProfileByte { kind, value, most } => {
                 let of = Kind::try_from(kind).map_or("Air", Kind::name);

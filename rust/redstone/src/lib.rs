@@ -32,6 +32,8 @@
 //! - A lever, button or plate powers the block at its support offset, `[0, -1, 0]` for the one below. Without an offset
 //!   it powers no block, and still gives its level to dust beside it.
 //! - A torch goes out while the block at its support offset has power. One whose `powered` is missing starts lit.
+//! - A copper bulb is a lamp whose light flips each time that power arrives, and then stays. It starts as its `powered`
+//!   says, and dark where that is missing. It takes a profile with its byte, such as [`BENCH_PROFILE_WITH_BULB`].
 //! - The support offset is what the [support list](supports) looks at, too: settling itself asks for no floor.
 //!
 //! # Figures
@@ -41,7 +43,7 @@
 //!   lit torches to the one above, if the profile has [`TORCH_CHARGES_ABOVE`].
 //! - *Weak power* is what dust, and strongly powered neighbours, give to a block.
 //!
-//! Lamps, torches, repeaters and comparators answer to both powers; strong power alone drives dust. What a table
+//! Lamps, bulbs, torches, repeaters and comparators answer to both powers; strong power alone drives dust. What a table
 //! settles to is an instant: the devices stand as the state has them, and a tick, a tenth of a second, lets them answer.
 //! So a torch on a powered block is lit in the fresh state and out after one tick.
 //!
@@ -52,7 +54,8 @@
 //! a table settles to with other devices; [`redraw`] draws the arms of dust, and [`supports`] lists what nothing holds
 //! up. The repository's README has their formats byte by byte:
 //!
-//! - The profile has [`PROFILE_BYTES`], one for each kind of block from Air on, such as [`BENCH_PROFILE`].
+//! - The profile has [`PROFILE_BYTES`], one for each kind of block from Air on, such as [`BENCH_PROFILE`]; or
+//!   [`PROFILE_BYTES_WITH_BULB`], such as [`BENCH_PROFILE_WITH_BULB`], and only then may the table have bulbs.
 //! - The table has [`ROW_BYTES`] for each row, ordered by x, then y, then z, each position once. Rows are numbered in
 //!   that order, from 0.
 //! - A device column has a byte for each row: a repeater's or torch's is 1 where it is on, a comparator's is its
@@ -122,8 +125,10 @@ struct Readme;
 pub const ROW_BYTES: usize = 32;
 /// Bytes of a row of a state.
 pub const STATE_BYTES: usize = 16;
-/// Bytes of a profile.
+/// Bytes of a profile for tables without bulbs.
 pub const PROFILE_BYTES: usize = 13;
+/// Bytes of a profile for tables that may have bulbs, whose byte is the last. It is good for any table.
+pub const PROFILE_BYTES_WITH_BULB: usize = 14;
 /// The most rows that a table may have.
 pub const MOST_ROWS: usize = 1024;
 /// The largest coordinate; its negative is the smallest.
@@ -132,6 +137,14 @@ pub const FARTHEST: i32 = 1_000_000;
 /// The bench's own profile: solid blocks and lamps conduct, and they, transparent blocks and redstone blocks carry
 /// components. Torches power no block: [`TORCH_CHARGES_ABOVE`] is clear.
 pub const BENCH_PROFILE: [u8; PROFILE_BYTES] = [0, 31, 1, 0, 0, 0, 0, 0, 0, 0, 31, 1, 0];
+
+/// The bench's own profile, and then the bulb's byte.
+///
+/// The byte is 7: components stand on a bulb, and weak and strong power that reach it count, but no repeater reads them
+/// and they drive no dust. So the Minecraft Wiki has it, page Copper Bulb: a full block that does not conduct. What
+/// still differs, such as what a comparator reads from a bulb, is in the repository's docs/DIFFERENCES.md.
+pub const BENCH_PROFILE_WITH_BULB: [u8; PROFILE_BYTES_WITH_BULB] =
+    [0, 31, 1, 0, 0, 0, 0, 0, 0, 0, 31, 1, 0, 7];
 
 /// The value of the torch's byte of a profile by which a lit torch gives strong power 15 to the block above it, where
 /// that block receives strong power. The bench profile does not have it; no other kind's byte may.
@@ -184,7 +197,8 @@ impl Columns<'_> {
 ///
 /// A repeater starts as its `powered` says, and off where that is missing; a torch likewise, but lit where it is
 /// missing; a comparator with its power level, or where that is missing with 15 or 0 by `powered`; and a lamp lit where
-/// the settled table powers it.
+/// the settled table powers it. A bulb starts lit where its `powered` is true. Power that the settled table gives it is
+/// not about to arrive: the bulb [had it](Device::Bulb), and so the first tick does not flip it.
 ///
 /// # Errors
 ///
@@ -223,6 +237,8 @@ pub fn settle(
 /// Moves a state on by `ticks` ticks, of a tenth of a second each, and settles it. It stands at tick number `tick`
 /// before and at `tick + ticks` after. No ticks at all settle it as it is. Any number is run, however long it takes.
 ///
+/// Once a tick has settled, the light of a bulb flips if it has power and had none after the tick before.
+///
 /// # Errors
 ///
 /// Refusals 1 to 5, 6 on the state, 7 on a column, and 9 where the tick's number would pass the last.
@@ -241,7 +257,7 @@ pub fn tick(
 }
 
 /// Sets whether the block at x, y, z is powered, in the table itself, and settles it. Where no block is, it settles
-/// the table as it is.
+/// the table as it is. The state stays as it is: a bulb that is powered by it flips at the next tick.
 ///
 /// # Errors
 ///

@@ -4,7 +4,7 @@ use std::error::Error;
 use std::fmt::{self, Display, Formatter};
 
 use crate::field::{Allowed, BadField, Field};
-use crate::{Arm, FARTHEST, Facing, Kind, ROW_BYTES, Shape};
+use crate::{Arm, FARTHEST, Facing, Kind, PROFILE_BYTES_WITH_BULB, ROW_BYTES, Shape};
 
 const fn field(name: &'static str, at: usize) -> Field {
     Field { name, at }
@@ -113,7 +113,7 @@ impl Row {
         Self { facing: facing.into(), ..self }
     }
 
-    /// Whether a lever, button or plate is on, and whether a repeater, torch or comparator starts on. Where it is
+    /// Whether a lever, button or plate is on, and whether a repeater, torch, comparator or bulb starts on. Where it is
     /// missing a torch starts lit, and all others are off. A comparator with a power level starts with that.
     #[must_use]
     pub fn powered(&self) -> Option<bool> {
@@ -241,12 +241,12 @@ impl Row {
         bytes
     }
 
-    /// Reads 32 bytes, field after field.
-    fn read(bytes: &[u8; ROW_BYTES]) -> Result<Self, BadField> {
+    /// Reads 32 bytes, field after field. The kind is to have a byte in a profile of so many.
+    pub(crate) fn read(bytes: &[u8; ROW_BYTES], profile_bytes: usize) -> Result<Self, BadField> {
         let [x, y, z] = POSITION.map(|field| field.within(field.number(bytes), -FARTHEST, FARTHEST));
         let row = Self {
             position: [x?, y?, z?],
-            kind: KIND.coded(bytes)?,
+            kind: read_kind(bytes, profile_bytes)?,
             facing: FACING.optional(bytes, "missing")?,
             powered: read_powered(bytes)?,
             power_level: given(bytes, LEVEL_GIVEN, &[LEVEL])?.then(|| LEVEL.byte(bytes)),
@@ -259,6 +259,16 @@ impl Row {
         UNUSED.iter().try_for_each(|field| field.zero(bytes, Allowed::Rule("it must be 0")))?;
         Ok(row)
     }
+}
+
+fn read_kind(bytes: &[u8], profile_bytes: usize) -> Result<Kind, BadField> {
+    let kind: Kind = KIND.coded(bytes)?;
+    if usize::from(kind.code()) < profile_bytes {
+        return Ok(kind);
+    }
+    let rule = "that is CopperBulb, and the profile has 13 bytes: give it a fourteenth, the bulb's, as \
+                BENCH_PROFILE_WITH_BULB has";
+    Err(KIND.bad(kind.code(), Allowed::Rule(rule)))
 }
 
 fn read_powered(bytes: &[u8]) -> Result<Option<bool>, BadField> {
@@ -312,7 +322,7 @@ impl TryFrom<&[u8; ROW_BYTES]> for Row {
     type Error = BadField;
 
     fn try_from(bytes: &[u8; ROW_BYTES]) -> Result<Self, BadField> {
-        Self::read(bytes)
+        Self::read(bytes, PROFILE_BYTES_WITH_BULB)
     }
 }
 
@@ -321,7 +331,7 @@ impl TryFrom<[u8; ROW_BYTES]> for Row {
     type Error = BadField;
 
     fn try_from(bytes: [u8; ROW_BYTES]) -> Result<Self, BadField> {
-        Self::read(&bytes)
+        Self::try_from(&bytes)
     }
 }
 
@@ -330,8 +340,8 @@ impl TryFrom<&[u8]> for Row {
     type Error = RowError;
 
     fn try_from(bytes: &[u8]) -> Result<Self, RowError> {
-        let bytes = bytes.try_into().map_err(|_| RowError::Length(bytes.len()))?;
-        Self::read(bytes).map_err(RowError::Field)
+        let bytes: &[u8; ROW_BYTES] = bytes.try_into().map_err(|_| RowError::Length(bytes.len()))?;
+        Self::try_from(bytes).map_err(RowError::Field)
     }
 }
 

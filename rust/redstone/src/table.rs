@@ -1,7 +1,7 @@
 //! A whole table, in rows and in bytes.
 
 use crate::row::position_of;
-use crate::{Fault, ROW_BYTES, Row};
+use crate::{Fault, PROFILE_BYTES_WITH_BULB, ROW_BYTES, Row};
 
 /// Packs rows into a table, in the table's order.
 ///
@@ -15,8 +15,8 @@ pub fn table(rows: impl IntoIterator<Item = Row>) -> Vec<u8> {
 
 /// Reads the rows of a packed table, as they stand in it.
 ///
-/// Their number and their order are for the calls to judge: what this reads and [`table()`] packs again has the table's
-/// order.
+/// Their number and their order are for the calls to judge, and so is whether their profile has a byte for bulbs: what
+/// this reads and [`table()`] packs again has the table's order.
 ///
 /// ```
 /// use redstone::{Kind, Row, find, rows, table};
@@ -32,13 +32,18 @@ pub fn table(rows: impl IntoIterator<Item = Row>) -> Vec<u8> {
 ///
 /// [`Fault::Ragged`] and [`Fault::BadRow`].
 pub fn rows(table: &[u8]) -> Result<Vec<Row>, Fault> {
+    rows_under(PROFILE_BYTES_WITH_BULB, table)
+}
+
+/// Reads rows whose kinds have a byte in a profile of so many.
+pub(crate) fn rows_under(profile_bytes: usize, table: &[u8]) -> Result<Vec<Row>, Fault> {
     let (packed, rest) = table.as_chunks();
     if !rest.is_empty() {
         return Err(Fault::Ragged { length: table.len() });
     }
     let read = |(row, bytes): (usize, &[u8; ROW_BYTES])| {
         let position = position_of(bytes);
-        Row::try_from(bytes).map_err(|field| Fault::BadRow { row, position, field })
+        Row::read(bytes, profile_bytes).map_err(|field| Fault::BadRow { row, position, field })
     };
     packed.iter().enumerate().map(read).collect()
 }

@@ -1,4 +1,5 @@
 mod build_script;
+mod bulbs;
 mod calls;
 mod circuit;
 mod faults;

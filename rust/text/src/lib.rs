@@ -26,8 +26,9 @@
 //!   then z.
 //! - `blocks=2` is the number of rows, and may be left out. Where it stands the last line has to be ended as well, so
 //!   that a text that was cut anywhere is refused. A text without rows has to say `blocks=0`.
-//! - `profile Solid=31 Transparent=1` is the profile by kinds; those that it leaves out have 0. Without this line it is
-//!   [the bench's](redstone::BENCH_PROFILE). `RedstoneTorch=32` in it has lit torches
+//! - `profile Solid=31 Transparent=1` is the profile by kinds; those that it leaves out have 0. It has 13 bytes, or 14
+//!   where it has `CopperBulb=`, even with 0: then alone may the rows be bulbs. Without this line it is
+//!   [the bench's with the bulb](redstone::BENCH_PROFILE_WITH_BULB), of 14. `RedstoneTorch=32` in it has lit torches
 //!   [charge the block above](redstone::TORCH_CHARGES_ABOVE).
 //!
 //! `blocks=` and `profile` stand before the rows. The fields are those of [`Row`](redstone::Row):
@@ -92,4 +93,4 @@ pub use line::{Line, Word, Words, lines};
 pub use nearest::nearest;
 pub use row::{arms_text, position_text, read_row, row_text};
 pub use step::Step;
-pub use table::{Profile, Table, TableReader};
+pub use table::{Table, TableReader};

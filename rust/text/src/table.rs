@@ -4,22 +4,19 @@ use std::collections::BTreeMap;
 use std::fmt::{self, Display, Formatter};
 use std::str::FromStr;
 
-use redstone::{BENCH_PROFILE, Kind, Row};
+use redstone::{BENCH_PROFILE_WITH_BULB, Kind, PROFILE_BYTES, Row};
 
 use crate::row::kinds;
 use crate::{Error, Line, Word, Words, lines, read_row, row_text};
 
-/// A byte for each kind, after one for Air, which is 0.
-pub type Profile = [u8; Kind::ALL.len() + 1];
-
 /// A table and its profile.
 ///
-/// It is read by [`FromStr`] and written by [`Display`]: a table whose rows stand in order, each position once, is
-/// equal after both.
+/// It is read by [`FromStr`] and written by [`Display`]: a table whose rows stand in order, each position once, and whose
+/// profile has 13 bytes or 14, the first 0, is equal after both.
 #[derive(Clone, Debug, Eq, PartialEq)]
 pub struct Table {
-    /// The profile, which is the bench's where none is written.
-    pub profile: Profile,
+    /// The profile, which is the bench's with the bulb where none is written.
+    pub profile: Vec<u8>,
     /// The rows, ordered by x, then y, then z.
     pub rows: Vec<Row>,
 }
@@ -59,12 +56,12 @@ impl FromStr for Table {
 /// Writes the shortest text that is read as this table, with the number of its rows.
 impl Display for Table {
     fn fmt(&self, f: &mut Formatter<'_>) -> fmt::Result {
-        if self.profile != BENCH_PROFILE {
+        if self.profile != BENCH_PROFILE_WITH_BULB {
             write!(f, "{PROFILE}")?;
-            for kind in Kind::ALL {
-                match self.profile[usize::from(kind.code())] {
-                    0 => {}
-                    byte => write!(f, " {kind}={byte}")?,
+            for (kind, &byte) in Kind::ALL.iter().zip(self.profile.iter().skip(1)) {
+                // The bulb's byte is one more, even where it is 0.
+                if byte != 0 || *kind == Kind::CopperBulb {
+                    write!(f, " {kind}={byte}")?;
                 }
             }
             writeln!(f)?;
@@ -80,7 +77,7 @@ const BLOCKS: &str = "blocks=";
 /// Reads a table line by line.
 #[derive(Clone, Debug, Default)]
 pub struct TableReader<'a> {
-    profile: Option<Profile>,
+    profile: Option<Vec<u8>>,
     /// The number of rows that is written, and where.
     blocks: Option<(usize, Word<'a>)>,
     /// Each row and its line.
@@ -130,10 +127,12 @@ impl<'a> TableReader<'a> {
 
     fn read_profile(&mut self, first: Word, words: Words) -> Result<(), Error> {
         self.check_before_rows(first, self.profile.is_some())?;
-        let mut profile = Profile::default();
+        let mut profile = vec![0; PROFILE_BYTES];
         for field in words.fields("a kind", kinds()) {
             let (kind, byte) = field?;
-            profile[usize::from(kind.code())] = byte.number(0..=u8::MAX)?;
+            let at = usize::from(kind.code());
+            profile.resize(profile.len().max(at + 1), 0);
+            profile[at] = byte.number(0..=u8::MAX)?;
         }
         self.profile = Some(profile);
         Ok(())
@@ -178,7 +177,10 @@ impl<'a> TableReader<'a> {
             Some((blocks, number)) if blocks != rows.len() => {
                 Err(number.expected(format!("{}, the number of rows that there are", rows.len())))
             }
-            _ => Ok(Table { profile: self.profile.unwrap_or(BENCH_PROFILE), rows }),
+            _ => {
+                let profile = self.profile.clone().unwrap_or_else(|| BENCH_PROFILE_WITH_BULB.to_vec());
+                Ok(Table { profile, rows })
+            }
         }
     }
 }

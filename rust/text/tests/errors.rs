@@ -41,7 +41,7 @@ fn errors_in_a_rows_position_and_kind() {
             "0,0,0 Stone",
             (1, 7),
             "found \"Stone\", expected a kind: Solid, Transparent, RedstoneWire, RedstoneTorch, Repeater, \
-             Comparator, Lever, Button, PressurePlate, RedstoneLamp, RedstoneBlock or Piston",
+             Comparator, Lever, Button, PressurePlate, RedstoneLamp, RedstoneBlock, Piston or CopperBulb",
         ),
     ]);
 }
@@ -117,6 +117,13 @@ fn errors_in_other_lines_of_a_table() {
         ("profile Sold=1", (1, 9), r#"found "Sold", expected a kind: did you mean Solid?"#),
         ("profile Solid=256", (1, 15), r#"found "256", expected a whole number from 0 to 255"#),
         ("profile torch=32", (1, 9), r#"found "torch", expected a kind: did you mean RedstoneTorch?"#),
+        ("profile Solid=31 Bulb=7", (1, 18), r#"found "Bulb", expected a kind: did you mean CopperBulb?"#),
+        ("profile CopperBulb=256", (1, 20), r#"found "256", expected a whole number from 0 to 255"#),
+        (
+            "profile CopperBulb=7 CopperBulb=7",
+            (1, 22),
+            r#"found "CopperBulb" again, expected a kind that is not given yet"#,
+        ),
         (
             "profile RedstoneTorch=32 RedstoneTorch=1",
             (1, 26),
@@ -162,10 +169,13 @@ fn a_misspelt_word_has_its_nearest() {
         ("Compartor", "Comparator"),
         ("Lamp", "RedstoneLamp"),
         ("torch", "RedstoneTorch"),
+        ("bulb", "CopperBulb"),
+        ("copper_bulb", "CopperBulb"),
+        ("CoperBulb", "CopperBulb"),
     ] {
         assert_eq!(nearest(kind), Some(meant), "{kind}");
     }
-    for kind in ["Le", "Stone", "Redstone", "Comprtr", "Tür"] {
+    for kind in ["Le", "Stone", "Redstone", "Comprtr", "Copper", "Tür"] {
         assert_eq!(nearest(kind), None, "{kind}");
     }
 }

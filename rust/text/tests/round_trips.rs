@@ -1,7 +1,10 @@
 //! Rows, tables and steps are equal after they are written and read, and what is written is short.
 
-use redstone::{Arm, BENCH_PROFILE, FARTHEST, Facing, Kind, MOST_ROWS, Row, Shape, TORCH_CHARGES_ABOVE};
-use redstone_text::{Profile, Step, Table, lines, read_row, row_text};
+use redstone::{
+    Arm, BENCH_PROFILE, BENCH_PROFILE_WITH_BULB, FARTHEST, Facing, Kind, MOST_ROWS, PROFILE_BYTES,
+    PROFILE_BYTES_WITH_BULB, Row, Shape, TORCH_CHARGES_ABOVE,
+};
+use redstone_text::{Step, Table, lines, read_row, row_text};
 
 /// Missing, or one of these.
 fn optional<T: Copy>(values: &[T]) -> Vec<Option<T>> {
@@ -97,14 +100,15 @@ fn a_row_with_every_field_is_written_in_this_order() {
     assert_eq!(read(&format!("{place} {}", reversed.join(" "))), Some(row));
 }
 
-/// Tables of up to the most rows, under the bench's profile and others.
+/// Tables of up to the most rows, under the bench's profiles and others.
 fn tables() -> impl Iterator<Item = Table> {
     let rows = rows();
-    let profile = |number: usize| -> Profile {
+    let profile = |number: usize| {
+        let length = [PROFILE_BYTES, PROFILE_BYTES_WITH_BULB][number % 2];
         match number % 5 {
-            0 => BENCH_PROFILE,
-            1 => Profile::default(),
-            _ => std::array::from_fn(|kind| if kind == 0 { 0 } else { (31 * kind + 7 * number) as u8 }),
+            0 => BENCH_PROFILE_WITH_BULB[..length].to_vec(),
+            1 => vec![0; length],
+            _ => (0..length).map(|kind| if kind == 0 { 0 } else { (31 * kind + 7 * number) as u8 }).collect(),
         }
     };
     (0..40).chain((40..=MOST_ROWS).step_by(41)).map(move |size| {
@@ -154,8 +158,24 @@ fn blanks_comments_and_line_ends_say_nothing() {
 fn what_is_missing_may_be_said() {
     let plain = read("0,0,0 Solid shape=plain mode=compare");
     assert_eq!(plain, Some(Row::new(Kind::Solid, [0; 3])));
-    assert_eq!("profile\nblocks=0\n".parse::<Table>().map(|table| table.profile), Ok(Profile::default()));
-    assert_eq!("blocks=0\n".parse::<Table>().map(|table| table.profile), Ok(BENCH_PROFILE));
+    let profile = |text: &str| text.parse::<Table>().map(|table| table.profile);
+    assert_eq!(profile("profile\nblocks=0\n"), Ok(vec![0; PROFILE_BYTES]));
+    assert_eq!(profile("blocks=0\n"), Ok(BENCH_PROFILE_WITH_BULB.to_vec()));
+}
+
+/// The bulb's byte is there where it is written, whatever it is and wherever it stands.
+#[test]
+fn a_profile_has_the_byte_of_the_bulb_where_it_is_written() {
+    let bench = "Solid=31 Transparent=1 RedstoneLamp=31 RedstoneBlock=1";
+    let written = |profile: &[u8]| Table { profile: profile.to_vec(), rows: Vec::new() }.to_string();
+    assert_eq!(written(&BENCH_PROFILE_WITH_BULB), "blocks=0\n");
+    assert_eq!(written(&BENCH_PROFILE), format!("profile {bench}\nblocks=0\n"));
+    for (line, bulb) in [("CopperBulb=0 ", 0), ("CopperBulb=6 ", 6)] {
+        let text = format!("profile {line}{bench}\nblocks=0\n");
+        let table: Table = text.parse().expect(&text);
+        assert_eq!(table.profile, [&BENCH_PROFILE[..], &[bulb]].concat());
+        assert_eq!(table.to_string(), format!("profile {bench} {}\nblocks=0\n", line.trim()));
+    }
 }
 
 /// Kinds stand in any order in the line, and are written by their codes.
@@ -187,10 +207,12 @@ fn the_value_of_the_torch_is_read_and_written() {
 fn every_byte_of_a_profile_is_equal_after_it_is_written_and_read() {
     for kind in Kind::ALL {
         for byte in 0..=u8::MAX {
-            let mut profile = BENCH_PROFILE;
+            let mut profile = BENCH_PROFILE_WITH_BULB;
             profile[usize::from(kind.code())] = byte;
-            let table = Table { profile, rows: Vec::new() };
-            assert_eq!(table.to_string().parse(), Ok(table), "{kind}={byte}");
+            for length in [PROFILE_BYTES, PROFILE_BYTES_WITH_BULB] {
+                let table = Table { profile: profile[..length].to_vec(), rows: Vec::new() };
+                assert_eq!(table.to_string().parse(), Ok(table), "{kind}={byte}");
+            }
         }
     }
 }

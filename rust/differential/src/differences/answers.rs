@@ -77,6 +77,7 @@ fn shown(what: Shown, rows: &[Row], settled: &Settled, row: usize) -> String {
         Shown::Device => state("device", 0),
         Shown::Lamp => state("lamp", 2),
         Shown::Candidate => state("candidate", 8),
+        Shown::HadPower => state("had_power", 9),
     }
 }
 

@@ -17,7 +17,7 @@ pub struct Example<'a> {
 
 impl Example<'_> {
     pub fn case(&self) -> Case {
-        Case::new("docs/DIFFERENCES.md", self.table.profile, self.table.rows.iter().copied())
+        Case::new("docs/DIFFERENCES.md", &self.table.profile[..], self.table.rows.iter().copied())
     }
 }
 
@@ -53,10 +53,16 @@ pub enum Shown {
     Device,
     Lamp,
     Candidate,
+    HadPower,
 }
 
-const SHOWN: [(&str, Shown); 4] =
-    [("row", Shown::Row), ("device", Shown::Device), ("lamp", Shown::Lamp), ("candidate", Shown::Candidate)];
+const SHOWN: [(&str, Shown); 5] = [
+    ("row", Shown::Row),
+    ("device", Shown::Device),
+    ("lamp", Shown::Lamp),
+    ("candidate", Shown::Candidate),
+    ("had_power", Shown::HadPower),
+];
 
 /// The tables of a document, of which it has at least one, and one under the heading of each entry.
 pub fn examples(document: &str) -> Result<Vec<Example<'_>>, Fault> {

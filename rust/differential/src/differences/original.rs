@@ -1,6 +1,7 @@
 //! The original.
 
 use super::bench::{Bench, Settled};
+use crate::bulb::Reading;
 use crate::compare::Answers;
 use crate::oracle::Oracle;
 use crate::redstone::{OriginalRun, SIGNAL, STATE, STRONG, Step, WEAK};
@@ -15,8 +16,8 @@ pub struct Original<'a> {
 }
 
 impl<'a> Original<'a> {
-    pub fn new(oracle: &'a Oracle<'a>) -> Self {
-        Self { oracle, run: OriginalRun::new(oracle) }
+    pub fn new(oracle: &'a Oracle<'a>, reading: Reading) -> Self {
+        Self { oracle, run: OriginalRun::reading(oracle, reading) }
     }
 
     fn step(&self, step: Step) -> Settled {

@@ -142,6 +142,12 @@ pub fn clock(random: &mut Random) -> Vec<Row> {
         let beside = [(); 3].map(|()| random.within(-1, 2));
         plan.put(device(random, moved(at, beside)));
     }
+    put_clock(random, &mut plan, at);
+    plan.rows()
+}
+
+/// Its torch at a position, and its block at the next to the South.
+pub fn put_clock(random: &mut Random, plan: &mut Plan, at: Position) {
     let place = |kind, step| Row::new(kind, moved(at, step));
     let (east, west) = (Some(Arm::Side), Some(Arm::Side));
     let delay = random.sometimes(80, any_delay);
@@ -155,5 +161,4 @@ pub fn clock(random: &mut Random) -> Vec<Row> {
     ] {
         plan.put(row);
     }
-    plan.rows()
 }

@@ -64,7 +64,7 @@ fn cover(random: &mut Random, position: Position) -> Row {
 }
 
 /// Something on a block or beside it that the block's power may reach.
-fn reader(random: &mut Random, block: Position) -> Row {
+pub fn reader(random: &mut Random, block: Position) -> Row {
     let side = random.below(HORIZONTAL.len());
     let step = HORIZONTAL[side];
     let (outward, beside) = (Facing::ALL[side], moved(block, step));
@@ -96,6 +96,6 @@ fn clock(random: &mut Random, plan: &mut Plan, at: Position) {
 }
 
 /// The support of what hangs on the block that the step led away from.
-fn back(step: Position) -> [i8; 3] {
+pub fn back(step: Position) -> [i8; 3] {
     step.map(|step| -step as i8)
 }

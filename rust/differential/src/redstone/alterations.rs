@@ -1,6 +1,6 @@
 //! Wrong answers that the comparison must report.
 
-use redstone::{ROW_BYTES, STATE_BYTES};
+use redstone::{Kind, ROW_BYTES, STATE_BYTES};
 
 use super::{Call, Input, PROFILE, SIGNAL, STATE, STRONG, TABLE, WEAK};
 use crate::compare::{Alteration, Answer, Answers};
@@ -8,7 +8,7 @@ use crate::generate::Case;
 use crate::lent::Lent;
 use crate::probe::Probe;
 
-pub const ALTERATIONS: [Alteration<Call>; 15] = [
+pub const ALTERATIONS: [Alteration<Call>; 21] = [
     Alteration {
         function: "fresh",
         what: "no lamp is lit",
@@ -128,7 +128,67 @@ pub const ALTERATIONS: [Alteration<Call>; 15] = [
         what: "every torch charges the block above",
         alter: |case, call, answer| *answer = with_torch_charging(true, case, call),
     },
+    Alteration {
+        function: "fresh",
+        what: "no bulb had power",
+        alter: |case, _, answer| each_bulb(case, answer, |bulb| bulb.state[9] = 0),
+    },
+    Alteration {
+        function: "fresh",
+        what: "a bulb is lit by its power",
+        alter: |case, _, answer| each_bulb(case, answer, |bulb| bulb.state[2] = bulb.has_power.into()),
+    },
+    Alteration {
+        function: "tick",
+        what: "a bulb is lit by its power",
+        alter: |case, _, answer| each_bulb(case, answer, |bulb| bulb.state[2] = bulb.has_power.into()),
+    },
+    Alteration {
+        function: "tick",
+        what: "a bulb that had power has had it ever since",
+        alter: |case, call, answer| {
+            if let Input::Tick { state, .. } = &call.input {
+                each_bulb(case, answer, |bulb| bulb.state[9] |= u16::from(state[STATE_BYTES * bulb.row + 9]));
+            }
+        },
+    },
+    Alteration {
+        function: "switch",
+        what: "byte 9 of a bulb is written",
+        alter: |case, _, answer| each_bulb(case, answer, |bulb| bulb.state[9] = bulb.has_power.into()),
+    },
+    Alteration {
+        function: "settle",
+        what: "a bulb takes no power",
+        alter: |case, _, answer| {
+            for row in bulbs(case, answer) {
+                [WEAK, STRONG].iter().for_each(|column| answer.buffers[*column].entries[row] = 0);
+            }
+        },
+    },
 ];
+
+/// A bulb of an answer.
+struct Bulb<'a> {
+    row: usize,
+    state: &'a mut [u16],
+    has_power: bool,
+}
+
+/// The rows of the bulbs, if the call was not refused.
+fn bulbs(case: &Case, answer: &Answer) -> Vec<usize> {
+    let rows = case.table.chunks_exact(ROW_BYTES).enumerate();
+    let bulbs = rows.filter(|(_, row)| row[12] == Kind::CopperBulb.code()).map(|(row, _)| row);
+    if answer.refusal().is_none() { bulbs.collect() } else { Vec::new() }
+}
+
+fn each_bulb(case: &Case, answer: &mut Answer, change: impl Fn(Bulb)) {
+    for row in bulbs(case, answer) {
+        let has_power = [WEAK, STRONG].iter().any(|column| answer.buffers[*column].entries[row] > 0);
+        let state = &mut answer.buffers[STATE].entries[STATE_BYTES * row..][..STATE_BYTES];
+        change(Bulb { row, state, has_power });
+    }
+}
 
 /// The answer with profile value 32 set or clear for the torch. The profile comes back as it was lent.
 fn with_torch_charging(charges: bool, case: &Case, call: &Call) -> Answer {

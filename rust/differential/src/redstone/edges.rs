@@ -1,10 +1,10 @@
-//! Inputs at the ends of what document 01 allows and one past them, each for every call.
+//! Inputs at the ends of what documents 01 and 02 allow and one past them, each for every call.
 
 use redstone::{Arm, FARTHEST, Facing, Kind, MOST_ROWS, ROW_BYTES, Row, STATE_BYTES};
 
 use super::queries::fresh_devices;
 use super::{Call, Input};
-use crate::generate::{BENCH_PROFILE, Case, TORCH};
+use crate::generate::{BENCH_PROFILE_WITH_BULB, BULB, Case, TORCH};
 use crate::oracle::Oracle;
 use crate::table::HORIZONTAL;
 
@@ -12,12 +12,20 @@ use crate::table::HORIZONTAL;
 type Asked = (Case, Call);
 
 fn case(sort: &'static str, rows: impl IntoIterator<Item = Row>) -> Case {
-    Case::new(sort, BENCH_PROFILE, rows)
+    Case::new(sort, BENCH_PROFILE_WITH_BULB, rows)
 }
 
-/// A lever on a lamp feeds a dust through a repeater and a comparator, and a torch that hangs on the dust charges the
-/// block over it.
-fn small(sort: &'static str) -> Case {
+/// A small table with a bulb, and one whose profile has no byte for it.
+fn smalls(sort: &'static str) -> [Case; 2] {
+    let with_bulb = small(sort, Kind::CopperBulb);
+    let mut without = small(sort, Kind::RedstoneLamp);
+    without.profile.truncate(BULB);
+    [with_bulb, without]
+}
+
+/// A lever on a lamp feeds a dust on such a block through a repeater and a comparator, and a torch that hangs on the dust
+/// charges the block over it.
+fn small(sort: &'static str, under_the_dust: Kind) -> Case {
     let lever = Row::new(Kind::Lever, [0, 1, 0]).with_support([0, -1, 0]);
     let east = |x, kind| Row::new(kind, [x, 1, 0]).with_facing(Facing::East);
     let arms = [None, Some(Arm::Side), Some(Arm::None), Some(Arm::Up)];
@@ -26,6 +34,7 @@ fn small(sort: &'static str) -> Case {
         lever.with_powered(true).with_power_level(9),
         east(1, Kind::Repeater).with_delay(3),
         east(2, Kind::Comparator).with_subtract(true),
+        Row::new(under_the_dust, [3, 0, 0]).with_powered(true),
         Row::new(Kind::RedstoneWire, [3, 1, 0]).with_arms(arms),
         Row::new(Kind::RedstoneTorch, [3, 1, 1]).with_support([0, 0, -1]),
         Row::new(Kind::Solid, [3, 2, 1]),
@@ -34,7 +43,7 @@ fn small(sort: &'static str) -> Case {
 }
 
 /// The number of its last row.
-const LAST: usize = 6;
+const LAST: usize = 7;
 
 /// A line of as many blocks, of every kind.
 fn line(sort: &'static str, rows: usize) -> Case {
@@ -65,6 +74,10 @@ fn each_call(case: Case) -> impl Iterator<Item = Asked> {
     calls(&case).into_iter().map(move |call| (case.clone(), call))
 }
 
+fn each_small_call(sort: &'static str) -> impl Iterator<Item = Asked> {
+    smalls(sort).into_iter().flat_map(each_call)
+}
+
 pub fn edges() -> impl Iterator<Item = Asked> {
     many_rows()
         .chain(coordinates())
@@ -85,9 +98,10 @@ fn coordinates() -> impl Iterator<Item = Asked> {
     let values = [FARTHEST, FARTHEST + 1, -FARTHEST, -FARTHEST - 1, i32::MAX, i32::MIN];
     let places = [0, 4, 8].into_iter().flat_map(|axis| [axis, LAST * ROW_BYTES + axis]);
     places.flat_map(move |at| values.map(|value| (at, value))).flat_map(|(at, value)| {
-        let mut case = small("coordinate at or past the end");
-        case.table[at..at + 4].copy_from_slice(&value.to_le_bytes());
-        each_call(case)
+        smalls("coordinate at or past the end").into_iter().flat_map(move |mut case| {
+            case.table[at..at + 4].copy_from_slice(&value.to_le_bytes());
+            each_call(case)
+        })
     })
 }
 
@@ -96,7 +110,7 @@ fn lengths() -> impl Iterator<Item = Asked> {
     let changes = [-33, -32, -31, -17, -16, -15, -1, 1, 15, 16, 17, 31, 32, 33, isize::MIN];
     let wrong = (0..6).flat_map(move |buffer| changes.map(|change| (buffer, change)));
     wrong.flat_map(|(buffer, change)| {
-        each_call(small("length")).map(move |mut asked| {
+        each_small_call("length").map(move |mut asked| {
             resize(&mut asked, buffer, change);
             asked
         })
@@ -134,7 +148,7 @@ fn read((case, call): &mut Asked, buffer: usize) -> Option<&mut Vec<u8>> {
 fn pairs_of_faults() -> impl Iterator<Item = Asked> {
     let pairs = FAULTS.into_iter().flat_map(|one| FAULTS.map(|other| (one, other)));
     pairs.flat_map(|(one, other)| {
-        each_call(small("two faults")).map(move |mut asked| {
+        each_small_call("two faults").map(move |mut asked| {
             one(&mut asked);
             other(&mut asked);
             asked
@@ -142,16 +156,20 @@ fn pairs_of_faults() -> impl Iterator<Item = Asked> {
     })
 }
 
-const FAULTS: [fn(&mut Asked); 20] = [
+const FAULTS: [fn(&mut Asked); 24] = [
     |asked| resize(asked, 0, -1),
     |asked| resize(asked, 0, 1),
+    |asked| resize(asked, 0, -2),
+    |asked| resize(asked, 0, 2),
     |(case, _)| set(&mut case.profile, 0, 1),
     |(case, _)| set(&mut case.profile, 12, 32),
     |(case, _)| set(&mut case.profile, TORCH, 64),
+    |(case, _)| set(&mut case.profile, BULB, 32),
     |asked| resize(asked, 1, -1),
     |asked| resize(asked, 1, 1),
     |(case, _)| case.table = line("", MOST_ROWS + 1).table,
     |(case, _)| set(&mut case.table, 12, 0),
+    |(case, _)| set(&mut case.table, 12, 14),
     |(case, _)| set(&mut case.table, LAST * ROW_BYTES + 31, 1),
     |(case, _)| case.table.copy_within(..12, LAST * ROW_BYTES),
     |(case, _)| case.table.copy_within(2 * ROW_BYTES.., ROW_BYTES),
@@ -199,13 +217,14 @@ fn clock() -> impl Iterator<Item = Asked> {
         .into_iter()
         .flat_map(move |ticks| [0, 1, last - 3, last - 2, last - 1, last].map(|tick| (tick, ticks)));
     let far = [(1, last), (2, last - 1), (last, last), (last / 2 + 1, last / 2 + 1)];
-    near.chain(far).map(|(tick, ticks)| {
-        let case = small("clock's end");
-        let mut call = calls(&case).remove(2);
-        if let Input::Tick { tick: at, ticks: asked, .. } = &mut call.input {
-            (*at, *asked) = (tick, ticks);
-        }
-        (case, call)
+    near.chain(far).flat_map(|(tick, ticks)| {
+        smalls("clock's end").map(|case| {
+            let mut call = calls(&case).remove(2);
+            if let Input::Tick { tick: at, ticks: asked, .. } = &mut call.input {
+                (*at, *asked) = (tick, ticks);
+            }
+            (case, call)
+        })
     })
 }
 
@@ -238,6 +257,7 @@ fn row_states() -> Vec<[u8; STATE_BYTES]> {
     }
     for lit in 0..=2 {
         (0..=3).for_each(|left| state(&[(2, lit), (3, left)]));
+        (0..=2).for_each(|had_power| state(&[(2, lit), (9, had_power)]));
     }
     // Seven toggles, eight, the oldest kept and one older.
     for [a, b, c, d] in [[0x7f, 0, 0, 0], [0x80, 0x3f, 0, 1], [0, 0, 0, 0x40], [0, 0, 0, 0x80], [255; 4]] {
@@ -267,9 +287,9 @@ fn locks() -> impl Iterator<Item = Asked> {
     })
 }
 
-/// The small case with each byte that a call reads set to each value.
+/// The small cases with each byte that a call reads set to each value.
 pub fn single_bytes() -> impl Iterator<Item = Asked> {
-    each_call(small("one byte set")).flat_map(|mut asked| {
+    each_small_call("one byte set").flat_map(|mut asked| {
         let bytes = [0, 1, 2].map(|buffer| read(&mut asked, buffer).map_or(0, |bytes| bytes.len()));
         let places = (0..3).flat_map(move |buffer| (0..bytes[buffer]).map(move |at| (buffer, at)));
         let changes = places.flat_map(|place| (0..=255).map(move |value| (place, value)));

@@ -4,7 +4,7 @@ use original::electrical::DeviceOutputState;
 use redstone::{Kind, Row, STATE_BYTES};
 
 use super::{Call, Input, SETTLES};
-use crate::devices::{any_device, any_devices};
+use crate::devices::{any_device, any_devices, is_switch};
 use crate::generate::Case;
 use crate::oracle::{Oracle, pos};
 use crate::random::Random;
@@ -87,20 +87,19 @@ pub fn fresh_devices(oracle: &Oracle) -> Vec<u8> {
 
 /// A state that a run comes to while switches are thrown: at its end they may stand otherwise than in the table.
 fn reached_state(random: &mut Random, oracle: &Oracle) -> Vec<u8> {
-    let mut started = oracle.started();
-    let simulator = started.get_mut();
+    let mut simulator = oracle.started();
     let ticks = if oracle.rows.len() >= LARGE { 1 } else { random.pick(&[0, 1, 2, 4, 8, 35]) };
     for _ in 0..ticks {
         if random.percent(30) {
             let at = any_position(random, oracle);
-            simulator.set_powered(pos(at), random.percent(50)).expect(SETTLES);
+            simulator.switch(at, random.percent(50));
         }
-        simulator.advance_tick().expect(SETTLES);
+        simulator.tick(1);
     }
-    oracle.packed(&started)
+    simulator.packed()
 }
 
-/// Any state that document 01 allows, whether a run comes to it or not.
+/// Any state that documents 01 and 02 allow, whether a run comes to it or not.
 fn any_state(random: &mut Random, rows: &[Row]) -> Vec<u8> {
     rows.iter().flat_map(|row| any_row_state(random, row)).collect()
 }
@@ -122,6 +121,10 @@ fn any_row_state(random: &mut Random, row: &Row) -> [u8; STATE_BYTES] {
             state[2] = random.byte_below(2);
             state[3] = random.byte_below(3) * state[2];
         }
+        Kind::CopperBulb => {
+            state[2] = random.byte_below(2);
+            state[9] = random.byte_below(2);
+        }
         _ => {}
     }
     state
@@ -137,12 +140,16 @@ fn switch(random: &mut Random, oracle: &Oracle, state: Vec<u8>) -> Input {
     Input::Switch { state, at: any_position(random, oracle), powered: random.percent(50) }
 }
 
-/// A row's position, or now and then any.
+/// A switch's position as often as any row's, or now and then any.
 pub fn any_position(random: &mut Random, oracle: &Oracle) -> Position {
-    if oracle.rows.is_empty() || random.percent(15) {
+    let mut rows: Vec<_> = oracle.rows.iter().collect();
+    if random.percent(50) && rows.iter().any(|row| is_switch(row)) {
+        rows.retain(|row| is_switch(row));
+    }
+    if rows.is_empty() || random.percent(15) {
         [(); 3].map(|()| random.pick(&[0, 1, i32::MIN, i32::MAX]))
     } else {
-        oracle.rows[random.below(oracle.rows.len())].position()
+        random.pick(&rows).position()
     }
 }
 

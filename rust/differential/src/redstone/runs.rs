@@ -2,15 +2,16 @@
 
 use std::cell::RefCell;
 
-use original::Profiled;
-use original::sim::{RedstoneTickSimulator, TickState};
-use redstone::STATE_BYTES;
+use original::electrical::InstantaneousElectricalState;
+use redstone::{Kind, Row, STATE_BYTES};
 
 use super::queries::{LARGE, any_position};
-use super::{Buffers, Call, Input, SETTLES, STATE, TABLE, settled, write_powered};
+use super::simulator::Simulator;
+use super::{Buffers, Call, Input, STATE, TABLE, write_powered};
+use crate::bulb::{READING, Reading};
 use crate::compare::{Answer, Answers, Query};
 use crate::generate::Case;
-use crate::oracle::{Oracle, pos};
+use crate::oracle::Oracle;
 use crate::probe::Probe;
 use crate::random::Random;
 use crate::table::Position;
@@ -40,12 +41,27 @@ pub fn steps(oracle: &Oracle) -> Vec<Step> {
     let mut random = Random::new(oracle.case.seed);
     let mut steps = vec![Step::Fresh];
     for _ in 0..if oracle.rows.len() < LARGE { STEPS } else { STEPS_IF_LARGE } {
-        if random.percent(30) {
+        if random.percent(50) {
             steps.push(Step::Switch { at: any_position(&mut random, oracle), powered: random.percent(50) });
         }
         steps.push(Step::Ticks(random.pick(&[0, 1, 1, 1, 1, 1, 2, 3, 8])));
     }
     steps
+}
+
+/// A hundred ticks, one by one, among which every lever is thrown and thrown back.
+pub fn hundred_ticks(oracle: &Oracle) -> Vec<Step> {
+    let levers = oracle.rows.iter().filter(|row| row.kind() == Kind::Lever);
+    let throws = |back: bool| {
+        let throw = move |row: &Row| Step::Switch {
+            at: row.position(),
+            powered: (row.powered() == Some(true)) == back,
+        };
+        levers.clone().map(throw)
+    };
+    let ticks = |number| vec![Step::Ticks(1); number];
+    let first = [Step::Fresh].into_iter().chain(ticks(40)).chain(throws(false));
+    first.chain(ticks(30)).chain(throws(true)).chain(ticks(30)).collect()
 }
 
 /// A run of the proved calls, each on the table, state and tick number that the one before left.
@@ -103,34 +119,38 @@ impl Answers<Step> for ProvedRun {
 /// A run of the original's simulator, never packed on the way.
 pub struct OriginalRun<'a> {
     oracle: &'a Oracle<'a>,
-    simulator: RefCell<Profiled<RedstoneTickSimulator>>,
+    simulator: RefCell<Simulator<'a>>,
 }
 
 impl<'a> OriginalRun<'a> {
     pub fn new(oracle: &'a Oracle<'a>) -> Self {
-        Self { oracle, simulator: RefCell::new(oracle.started()) }
+        Self::reading(oracle, READING)
     }
 
-    fn step(&self, step: Step) -> TickState {
+    /// Where Change 4 is read so.
+    pub fn reading(oracle: &'a Oracle<'a>, reading: Reading) -> Self {
+        Self { oracle, simulator: RefCell::new(Simulator::started(oracle, reading)) }
+    }
+
+    fn step(&self, step: Step) -> InstantaneousElectricalState {
         let mut simulator = self.simulator.borrow_mut();
-        let simulator = simulator.get_mut();
         match step {
-            Step::Fresh => simulator.snapshot(),
-            Step::Ticks(ticks) => simulator.settle_ticks(ticks as usize).expect(SETTLES),
-            Step::Switch { at, powered } => simulator.set_powered(pos(at), powered).expect(SETTLES),
+            Step::Fresh => simulator.settled(),
+            Step::Ticks(ticks) => simulator.tick(ticks),
+            Step::Switch { at, powered } => simulator.switch(at, powered),
         }
     }
 }
 
 impl Answers<Step> for OriginalRun<'_> {
     fn answer(&self, step: &Step) -> Answer {
-        let settled = settled(self.step(*step));
+        let settled = self.step(*step);
         let simulator = self.simulator.borrow();
         let Oracle { case, rows, .. } = self.oracle;
         let mut table = case.table.clone();
-        write_powered(&mut table, simulator.get().world());
+        write_powered(&mut table, simulator.world());
         let column = vec![0; rows.len()];
-        let state = self.oracle.packed(&simulator);
+        let state = simulator.packed();
         let mut buffers = Buffers::new([&case.profile, &table, &state, &column, &column, &column]);
         let [_, _, _, columns @ ..] = buffers.entries();
         self.oracle.write_columns(&settled, columns);

@@ -1,12 +1,14 @@
-//! The packed state and device column of document 01, and the parts of the original's simulator that they stand for.
+//! The packed state and device column of document 01, and the parts of the original's simulator that they stand for. The
+//! original has no part of a bulb.
 
-use std::collections::VecDeque;
+use std::collections::{BTreeMap, VecDeque};
 
 use original::electrical::DeviceOutputState;
 use original::sim::Parts;
 use original::world::Pos;
 use redstone::{Kind, Row, STATE_BYTES};
 
+use crate::bulb::Bulb;
 use crate::oracle::pos;
 
 /// The original counts ticks from a start, the packed state back from now. Any number of ticks at least as large as
@@ -76,9 +78,10 @@ fn unpack_lamp(parts: &mut Parts, at: Pos, state: &[u8]) {
     }
 }
 
-/// The state for the simulator's parts.
-pub fn pack(rows: &[Row], parts: &Parts) -> Vec<u8> {
-    rows.iter().flat_map(|row| pack_row(row, parts)).collect()
+/// The state for the simulator's parts and the bulbs.
+pub fn pack(rows: &[Row], parts: &Parts, bulbs: &BTreeMap<Pos, Bulb>) -> Vec<u8> {
+    let bulb = |row: &Row| bulbs.get(&pos(row.position())).map(|bulb| bulb.bytes());
+    rows.iter().flat_map(|row| bulb(row).unwrap_or_else(|| pack_row(row, parts))).collect()
 }
 
 fn pack_row(row: &Row, parts: &Parts) -> [u8; STATE_BYTES] {

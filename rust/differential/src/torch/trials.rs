@@ -1,14 +1,14 @@
 //! What Change 3 is tried on: small tables with figures by hand, and every torch under every block.
 
-use redstone::{BENCH_PROFILE, Kind, Row, Shape};
+use redstone::{Kind, Row, Shape};
 use redstone_text::Table;
 
-use crate::generate::{Case, TORCH};
+use crate::generate::{BENCH_PROFILE_WITH_BULB, BULB, Case, TORCH};
 use crate::table::ABOVE;
 
 /// The bench profile with such a byte for the torch.
-pub fn profile(torch: u8) -> [u8; 13] {
-    let mut profile = BENCH_PROFILE;
+pub fn profile(torch: u8) -> [u8; 14] {
+    let mut profile = BENCH_PROFILE_WITH_BULB;
     profile[TORCH] = torch;
     profile
 }
@@ -75,14 +75,15 @@ pub struct Trial {
 }
 
 impl Trial {
-    /// The table with such a byte for the torch.
-    pub fn table(&self, byte: u8) -> Table {
+    /// The table with such a byte for the torch, by a profile with a byte for the bulb and by one without.
+    pub fn tables(&self, byte: u8) -> [Table; 2] {
         let table: Table = self.rows.parse().unwrap_or_else(|error| panic!("{}: {error}", self.what));
-        Table { profile: profile(byte), ..table }
+        let profile = profile(byte);
+        [&profile[..], &profile[..BULB]].map(|profile| Table { profile: profile.to_vec(), ..table.clone() })
     }
 
-    pub fn case(&self, byte: u8) -> Case {
-        Case::new("trial", profile(byte), self.table(byte).rows)
+    pub fn cases(&self, byte: u8) -> [Case; 2] {
+        self.tables(byte).map(|Table { profile, rows }| Case::new("trial", profile, rows))
     }
 }
 

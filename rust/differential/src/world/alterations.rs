@@ -5,7 +5,7 @@ use redstone::ROW_BYTES;
 use super::{Name, WorldQuery};
 use crate::compare::Alteration;
 
-pub const ALTERATIONS: [Alteration<WorldQuery>; 12] = [
+pub const ALTERATIONS: [Alteration<WorldQuery>; 14] = [
     Alteration {
         function: "find",
         what: "row 3 is found as row 4",
@@ -28,6 +28,20 @@ pub const ALTERATIONS: [Alteration<WorldQuery>; 12] = [
         function: "kind_at",
         what: "a piston is taken for air",
         alter: |_, _, answer| answer.number %= 12,
+    },
+    Alteration {
+        function: "kind_at",
+        what: "a bulb is taken for air",
+        alter: |_, _, answer| answer.number %= 13,
+    },
+    Alteration {
+        function: "properties",
+        what: "a bulb has none",
+        alter: |_, query, answer| {
+            if let WorldQuery::Properties(13) = query {
+                answer.number = 0;
+            }
+        },
     },
     Alteration {
         function: "properties",

@@ -10,7 +10,7 @@ use crate::refusals;
 use crate::table::{self, Position, moved};
 
 /// Numbers that are no kind, among them ones whose low byte is.
-const NO_KINDS: [u32; 7] = [13, 14, 255, 256, 257, 268, u32::MAX];
+const NO_KINDS: [u32; 7] = [14, 15, 255, 256, 257, 269, u32::MAX];
 
 const FACES: [Position; 6] = [[1, 0, 0], [-1, 0, 0], [0, 1, 0], [0, -1, 0], [0, 0, 1], [0, 0, -1]];
 
@@ -27,7 +27,7 @@ pub fn queries(case: &Case) -> Vec<WorldQuery> {
         for at in positions(&mut random, &rows) {
             queries.extend([WorldQuery::Find(at), WorldQuery::KindAt(at)]);
         }
-        queries.extend((0..=12).chain(NO_KINDS).map(WorldQuery::Properties));
+        queries.extend((0..=13).chain(NO_KINDS).map(WorldQuery::Properties));
         queries.push(any_name(&mut random));
         queries.push(any_offset(&mut random));
         queries.push(WorldQuery::Opposite(any_facing(&mut random)));

@@ -13,7 +13,8 @@ pub const COMMAND: Command = Command {
     summary: "writes every figure of every tick as comma-separated values",
     help: "\
 One line for each tick and row: the tick, x, y, z, the kind; signal, weak and strong power; and of the state the device
-byte, a repeater's queue, whether a lamp is lit and its ticks left, and whether a torch is a candidate for burning out.",
+byte, a repeater's queue, whether a lamp or bulb is lit, a lamp's ticks left, whether a torch is a candidate for burning
+out, and whether a bulb had power after the last tick.",
     options: &[&TICKS, &SWITCH, &PROFILE, &OUT],
     run,
 };

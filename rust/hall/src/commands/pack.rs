@@ -12,8 +12,8 @@ pub const COMMAND: Command = Command {
     operands: "FILE",
     summary: "writes a hall in the packed form, which `settle` and the editor read",
     help: "\
-The packed form is the profile's 13 bytes and 32 for each row. It has no place for switches and expectations: they stay
-behind in the text.",
+The packed form is the profile's bytes, 13 or with the bulb's 14, and 32 for each row. It has no place for switches and
+expectations: they stay behind in the text.",
     options: &[&PROFILE, &OUT],
     run,
 };

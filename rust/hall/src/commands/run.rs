@@ -18,7 +18,7 @@ pub const COMMAND: Command = Command {
     summary: "shows the settled levels and what every device does on the next ticks",
     help: "\
 First the settled levels, with the fresh devices: those of tick 0. Then a chart with a line for each repeater, torch,
-comparator and lamp, the same as events in words, and from which tick on nothing changes or a cycle begins.
+comparator, lamp and bulb, the same as events in words, and from which tick on nothing changes or a cycle begins.
 Lines `switch tick 4 0,1,0 on` of the file do what --switch does. Hints tell where the game is known to differ; they
 change no figure.",
     options: &[&TICKS, &SWITCH, &PROFILE],

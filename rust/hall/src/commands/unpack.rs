@@ -14,20 +14,16 @@ pub const COMMAND: Command = Command {
     operands: "FILE",
     summary: "writes a hall in the text form",
     help: "\
-One line for each row, in the table's order, and before them `blocks=` and, where it is not the bench profile, `profile`.
-Packed again it gives the same bytes. Of a hall that is a text already, it leaves out comments, switches and expectations.",
+One line for each row, in the table's order, and before them `blocks=` and, where it is not the bench profile with the
+bulb's byte, `profile`. Packed again it gives the same bytes. Of a hall that is a text already, it leaves out comments,
+switches and expectations.",
     options: &[&PROFILE, &OUT],
     run,
 };
 
 fn run(arguments: &Arguments, out: &mut dyn Write) -> Result<Status, Failure> {
     let hall = arguments.hall()?;
-    let profile = hall
-        .fresh
-        .profile()
-        .try_into()
-        .map_err(|_| Failure::sentence("the text form has no place for a profile of this length"))?;
-    let text = Table { profile, rows: hall.rows.clone() }.to_string();
+    let text = Table { profile: hall.fresh.profile().to_vec(), rows: hall.rows.clone() }.to_string();
     deliver(text.as_bytes(), arguments.option(&OUT), &arguments.operands, out)?;
     tell_left_out(slice::from_ref(&hall), "the rows alone are written", out)?;
     Ok(Status::Good)

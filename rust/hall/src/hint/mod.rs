@@ -71,7 +71,7 @@ const RULES: &[Rule] = &[
     Rule {
         number: 2,
         sentence: "a redstone block beside it powers it here, and no block in the game",
-        holds: |view, row| view.kind(row) != Kind::RedstoneLamp && view.powered_by_redstone_block(row),
+        holds: |view, row| !view.is_light(row) && view.powered_by_redstone_block(row),
     },
     Rule {
         number: 3,
@@ -87,12 +87,10 @@ const RULES: &[Rule] = &[
         sentence: "a strongly powered block beside it powers it here, and no block in the game",
         holds: |view, row| {
             view.takes_power(row)
-                && view.around(row).any(|other| view.is_device_that_reads(other, row))
+                && !view.is_bulb(row)
+                && view.is_read(row)
                 && view.ever(|frame| {
-                    let strong_beside = view.around(row).any(|other| frame.figures(other).strong > 0);
-                    let dust_beside = view.around(row).any(|other| view.is_dust_with_power(frame, other));
-                    let figures = frame.figures(row);
-                    figures.weak > 0 && figures.strong == 0 && strong_beside && !dust_beside
+                    view.is_powered_by_blocks(frame, row) && view.is_beside_strong_block(frame, row)
                 })
         },
     },
@@ -187,21 +185,24 @@ const RULES: &[Rule] = &[
                 |frame: &Frame, block: usize| frame.figures(row).signal < frame.figures(block).strong.min(15);
             view.kind(row) == Kind::RedstoneWire
                 && view.beside(row).any(|block| {
-                    // What a redstone block powers has no power in the game (2).
-                    !view.powered_by_redstone_block(block) && view.ever(|frame| is_lower(frame, block))
+                    // What a redstone block powers has no power in the game (2), and a bulb gives none on.
+                    let gives = !view.powered_by_redstone_block(block) && !view.is_bulb(block);
+                    gives && view.ever(|frame| is_lower(frame, block))
                 })
         },
     },
     Rule {
         number: 19,
-        sentence: "a weakly powered block is beside it, and lights it in the game, not here",
-        holds: |view, row| view.is_dark_lamp_while(row, |frame, block| view.is_powered_by_dust(frame, block)),
+        sentence: "a weakly powered block is beside it, and powers it in the game, not here",
+        holds: |view, row| {
+            view.is_powerless_light_while(row, |frame, block| view.is_powered_by_dust(frame, block))
+        },
     },
     Rule {
         number: 20,
-        sentence: "a lever, button or plate is beside it, and lights it in the game, not here",
+        sentence: "a lever, button or plate is beside it, and powers it in the game, not here",
         holds: |view, row| {
-            view.is_dark_lamp_while(row, |frame, block| {
+            view.is_powerless_light_while(row, |frame, block| {
                 is_switch(view.kind(block)) && frame.figures(block).signal > 0
             })
         },
@@ -215,8 +216,8 @@ const RULES: &[Rule] = &[
     Rule {
         number: 22,
         sentence: "a block is over it, and takes its power in the game, not here: add 32 to RedstoneTorch in the profile, \
-                   as in `profile Solid=31 Transparent=1 RedstoneLamp=31 RedstoneBlock=1 RedstoneTorch=32` before the \
-                   rows, or lead dust from the torch",
+                   as in `profile Solid=31 Transparent=1 RedstoneLamp=31 RedstoneBlock=1 CopperBulb=7 RedstoneTorch=32` \
+                   before the rows, or lead dust from the torch",
         holds: |view, row| {
             view.kind(row) == Kind::RedstoneTorch
                 && !view.torches_charge_above()
@@ -228,9 +229,9 @@ const RULES: &[Rule] = &[
     },
     Rule {
         number: 23,
-        sentence: "a lit torch is beside it, and lights it in the game, not here: lead dust from the torch",
+        sentence: "a lit torch is beside it, and powers it in the game, not here: lead dust from the torch",
         holds: |view, row| {
-            view.is_dark_lamp_while(row, |frame, block| {
+            view.is_powerless_light_while(row, |frame, block| {
                 let is_lit = matches!(frame.devices[block], Device::Torch { lit: true, .. });
                 is_lit && !view.stands_on(block, row)
             })
@@ -240,10 +241,8 @@ const RULES: &[Rule] = &[
         number: 24,
         sentence: "a powered block is at its side, which it reads here and not in the game",
         holds: |view, row| {
-            let has_power =
-                |frame: &Frame, block: usize| frame.figures(block).weak.max(frame.figures(block).strong) > 0;
             view.kind(row) == Kind::Comparator
-                && view.sides(row).any(|block| view.ever(|frame| has_power(frame, block)))
+                && view.sides(row).any(|block| view.ever(|frame| view.has_power(frame, block)))
         },
     },
     Rule {
@@ -311,6 +310,47 @@ const RULES: &[Rule] = &[
         holds: |view, row| {
             let is_diode = matches!(view.kind(row), Kind::Repeater | Kind::Comparator);
             is_diode && !view.row(row).facing().is_some_and(|facing| SIDES.contains(&facing))
+        },
+    },
+    Rule {
+        number: 57,
+        sentence: "it has a bulb at its back, of which it reads the power here; in the game the light, 15 where it is lit",
+        holds: |view, row| {
+            view.kind(row) == Kind::Comparator && view.input(row).is_some_and(|block| view.is_bulb(block))
+        },
+    },
+    Rule {
+        number: 58,
+        sentence: "it has power as a block, which puts out a torch on it, or powers a lamp, a bulb or a block beside it; in the \
+                   game it powers nothing",
+        holds: |view, row| {
+            let is_put_out =
+                |torch: usize| view.kind(torch) == Kind::RedstoneTorch && view.support(torch) == Some(row);
+            let gets_power = |frame: &Frame, block: usize| {
+                (view.is_light(block) || view.is_read(block))
+                    && view.is_powered_by_blocks(frame, block)
+                    && !view.is_beside_strong_block(frame, block)
+            };
+            view.is_bulb(row)
+                && view.ever(|frame| {
+                    view.has_power(frame, row) && view.around(row).any(is_put_out)
+                        || frame.figures(row).strong > 0
+                            && view.around(row).any(|block| gets_power(frame, block))
+                })
+        },
+    },
+    Rule {
+        number: 59,
+        sentence: "a switch powers it, and it flips a tick later, or never if the power has gone by then; in the game at once",
+        holds: |view, row| view.is_bulb_at_switch(row),
+    },
+    Rule {
+        number: 60,
+        sentence: "it has power at the start and is dark; in the game a bulb that is set beside power is lit: write \
+                   powered=true, or powered=false for one that is to be dark",
+        holds: |view, row| {
+            let had_power = matches!(view.run.frames[0].devices[row], Device::Bulb { had_power: true, .. });
+            had_power && view.row(row).powered().is_none()
         },
     },
 ];

@@ -71,6 +71,15 @@ impl<'a> View<'a> {
         self.row(row).kind()
     }
 
+    pub fn is_bulb(&self, row: usize) -> bool {
+        self.kind(row) == Kind::CopperBulb
+    }
+
+    /// Whether a row is a lamp or a bulb, which the game powers as devices and not as blocks alone.
+    pub fn is_light(&self, row: usize) -> bool {
+        self.kind(row) == Kind::RedstoneLamp || self.is_bulb(row)
+    }
+
     /// The row at a side of a row.
     pub fn at(&self, row: usize, side: Facing) -> Option<usize> {
         self.around[row][usize::from(side.code()) - 1]
@@ -173,6 +182,11 @@ impl<'a> View<'a> {
         }
     }
 
+    /// Whether a torch, repeater or comparator beside a block answers to its power.
+    pub fn is_read(&self, block: usize) -> bool {
+        self.around(block).any(|other| self.is_device_that_reads(other, block))
+    }
+
     /// Whether a row, beside a block with strong power, answers to it.
     pub fn reads(&self, row: usize, block: usize) -> bool {
         matches!(self.kind(row), Kind::RedstoneWire | Kind::RedstoneLamp)
@@ -183,17 +197,32 @@ impl<'a> View<'a> {
         self.takes_power(row) && self.around(row).any(|other| self.kind(other) == Kind::RedstoneBlock)
     }
 
+    pub fn has_power(&self, frame: &Frame, row: usize) -> bool {
+        frame.figures(row).weak.max(frame.figures(row).strong) > 0
+    }
+
+    /// Whether a block has weak power alone, and no dust gives it.
+    pub fn is_powered_by_blocks(&self, frame: &Frame, row: usize) -> bool {
+        let dust_beside = self.around(row).any(|other| self.is_dust_with_power(frame, other));
+        frame.figures(row).weak > 0 && frame.figures(row).strong == 0 && !dust_beside
+    }
+
+    /// Whether a strongly powered block that is no bulb is at one of the six sides.
+    pub fn is_beside_strong_block(&self, frame: &Frame, row: usize) -> bool {
+        self.around(row).any(|other| !self.is_bulb(other) && frame.figures(other).strong > 0)
+    }
+
     pub fn is_dust_with_power(&self, frame: &Frame, row: usize) -> bool {
         self.kind(row) == Kind::RedstoneWire && frame.figures(row).signal > 0
     }
 
-    /// Whether a block has weak power alone, and dust gives it: dust that lies on it, or for want of a strongly powered
-    /// block beside it, which would give it here and not in the game (4).
+    /// Whether a block that gives power on in the game has weak power alone, and dust gives it: dust that lies on it, or
+    /// for want of a strongly powered block beside it, which would give it here and not in the game (4).
     pub fn is_powered_by_dust(&self, frame: &Frame, block: usize) -> bool {
         let figures = frame.figures(block);
         let over = self.at(block, Facing::Up).is_some_and(|dust| self.is_dust_with_power(frame, dust));
         let strong_beside = self.around(block).any(|other| frame.figures(other).strong > 0);
-        figures.weak > 0 && figures.strong == 0 && (over || !strong_beside)
+        !self.is_bulb(block) && figures.weak > 0 && figures.strong == 0 && (over || !strong_beside)
     }
 
     /// Whether a repeater or comparator beside a row is ever on and does not point at it.
@@ -229,11 +258,12 @@ impl<'a> View<'a> {
             && self.ever_gives(dust)
     }
 
-    /// Whether a lamp has no power at a tick at which something holds of a block at one of its sides.
-    pub fn is_dark_lamp_while(&self, row: usize, holds: impl Fn(&Frame, usize) -> bool) -> bool {
-        let has_none = |frame: &Frame| frame.figures(row).weak == 0 && frame.figures(row).strong == 0;
-        self.kind(row) == Kind::RedstoneLamp
-            && self.ever(|frame| has_none(frame) && self.around(row).any(|other| holds(frame, other)))
+    /// Whether a lamp or bulb has no power at a tick at which something holds of a block at one of its sides.
+    pub fn is_powerless_light_while(&self, row: usize, holds: impl Fn(&Frame, usize) -> bool) -> bool {
+        self.is_light(row)
+            && self.ever(|frame| {
+                !self.has_power(frame, row) && self.around(row).any(|other| holds(frame, other))
+            })
     }
 
     /// Whether a torch is fixed to a block: by its field, or for want of one to the block below.
@@ -268,8 +298,25 @@ impl<'a> View<'a> {
     pub fn has_lamp_at_switch(&self, row: usize, holds: fn(bool, bool, u8) -> bool) -> bool {
         let mut frames = self.run.frames.iter().filter(|frame| !frame.switches.is_empty());
         frames.any(|frame| match frame.devices[row] {
-            Device::Lamp { lit, ticks_left } => {
-                holds(frame.figures(row).weak.max(frame.figures(row).strong) > 0, lit, ticks_left)
+            Device::Lamp { lit, ticks_left } => holds(self.has_power(frame, row), lit, ticks_left),
+            _ => false,
+        })
+    }
+
+    /// Whether a bulb has power when something is switched, and had none after the tick; or whether there is a bulb when
+    /// one thing is switched twice, so that power may have come or gone between.
+    pub fn is_bulb_at_switch(&self, row: usize) -> bool {
+        let is_switched_twice = |frame: &Frame| {
+            let switches = &frame.switches;
+            switches
+                .iter()
+                .enumerate()
+                .any(|(at, one)| switches[..at].iter().any(|other| other.position == one.position))
+        };
+        let mut frames = self.run.frames.iter().filter(|frame| !frame.switches.is_empty());
+        frames.any(|frame| match frame.devices[row] {
+            Device::Bulb { had_power, .. } => {
+                !had_power && self.has_power(frame, row) || is_switched_twice(frame)
             }
             _ => false,
         })

@@ -28,7 +28,7 @@ const TICKS_SIDE_BY_SIDE: usize = 40;
 pub fn charts(run: &Run, met: &[Met]) -> String {
     let lanes = run.lanes();
     if lanes.is_empty() {
-        return "<p>There is no repeater, torch, comparator or lamp.</p>\n".to_owned();
+        return "<p>There is no repeater, torch, comparator, lamp or bulb.</p>\n".to_owned();
     }
     let mut text = String::new();
     for first in (0..run.frames.len()).step_by(TICKS_SIDE_BY_SIDE) {

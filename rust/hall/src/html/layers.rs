@@ -180,13 +180,16 @@ fn drawing(row: &Row, frame: &Frame, number: usize) -> String {
         Kind::Lever => "<rect class=\"base\" x=\"9\" y=\"20\" width=\"14\" height=\"8\" rx=\"2\"/>\
              <path class=\"off-stick\" d=\"M16 22L8 6\"/><path class=\"on-stick\" d=\"M16 22L24 6\"/>"
             .to_owned(),
-        Kind::Button => "<rect class=\"body\" x=\"9\" y=\"12\" width=\"14\" height=\"9\" rx=\"2\"/>".to_owned(),
-        Kind::PressurePlate => "<rect class=\"body\" x=\"4\" y=\"6\" width=\"24\" height=\"20\" rx=\"2\"/>".to_owned(),
-        Kind::RedstoneLamp => "<rect class=\"body\" x=\"1\" y=\"1\" width=\"30\" height=\"30\" rx=\"3\"/>\
-             <path class=\"half\" d=\"M1 1H31L1 31Z\"/>\
-             <path class=\"rays\" d=\"M16 4V9M16 23V28M4 16H9M23 16H28M8 8L11 11M21 21L24 24M24 8L21 11M11 21L8 24\"/>\
-             <circle class=\"bulb\" cx=\"16\" cy=\"16\" r=\"5\"/>"
-            .to_owned(),
+        Kind::Button => {
+            "<rect class=\"body\" x=\"9\" y=\"12\" width=\"14\" height=\"9\" rx=\"2\"/>".to_owned()
+        }
+        Kind::PressurePlate => {
+            "<rect class=\"body\" x=\"4\" y=\"6\" width=\"24\" height=\"20\" rx=\"2\"/>".to_owned()
+        }
+        Kind::RedstoneLamp => light("<circle class=\"core\" cx=\"16\" cy=\"16\" r=\"5\"/>"),
+        Kind::CopperBulb => {
+            light("<rect class=\"core\" x=\"11\" y=\"11\" width=\"10\" height=\"10\" rx=\"2\"/>")
+        }
         Kind::RedstoneBlock => "<rect class=\"body\" x=\"1\" y=\"1\" width=\"30\" height=\"30\" rx=\"2\"/>\
              <text class=\"number\" x=\"16\" y=\"21\">15</text>"
             .to_owned(),
@@ -197,6 +200,15 @@ fn drawing(row: &Row, frame: &Frame, number: usize) -> String {
             kind.name().chars().next().unwrap_or('?')
         ),
     }
+}
+
+/// A lamp or a bulb, around what is drawn in its middle.
+fn light(core: &str) -> String {
+    format!(
+        "<rect class=\"body\" x=\"1\" y=\"1\" width=\"30\" height=\"30\" rx=\"3\"/>\
+         <path class=\"half\" d=\"M1 1H31L1 31Z\"/>\
+         <path class=\"rays\" d=\"M16 4V9M16 23V28M4 16H9M23 16H28M8 8L11 11M21 21L24 24M24 8L21 11M11 21L8 24\"/>{core}"
+    )
 }
 
 /// An arrow that is drawn towards North, turned to where a device faces.

@@ -112,7 +112,8 @@ fn as_library_gives(case: &Case, ticks: u32, switches: &[(u32, [i32; 3], bool)])
             let [x, y, z] = row.position();
             let [signal, weak, strong] = [0, 1, 2].map(|column: usize| columns[column][number]);
             text += &format!("{tick},{x},{y},{z},{},{signal},{weak},{strong},", row.kind());
-            text += &format!("{},{},{},{},{}\n", bytes[0], bytes[1], bytes[2], bytes[3], bytes[8]);
+            let shown = [0, 1, 2, 3, 8, 9].map(|at: usize| bytes[at].to_string());
+            text += &format!("{}\n", shown.join(","));
         }
     }
     text
@@ -155,6 +156,7 @@ fn expectations(line: &str, is_right: bool) -> String {
         "Repeater" => all.push(("repeater", word(8, ["off", "on"]))),
         "Comparator" => all.push(("comparator", level(8))),
         "RedstoneLamp" => all.push(("lamp", word(10, ["dark", "lit"]))),
+        "CopperBulb" => all.push(("bulb", word(10, ["dark", "lit"]))),
         "RedstoneTorch" => {
             all.extend([("torch", word(8, ["out", "lit"])), ("candidate", word(12, ["no", "yes"]))]);
         }
@@ -167,7 +169,7 @@ fn expectations(line: &str, is_right: bool) -> String {
 
 #[test]
 fn each_expectation_is_about_its_figure() {
-    let mut expected = 0;
+    let (mut expected, mut of_bulbs) = (0, 0);
     for case in cases(120).filter(|case| (1..=100).contains(&case.rows())) {
         let figures = as_library_gives(&case, 9, &[]);
         let rows = hall_with(&["unpack", "-"], &[&case.profile[..], &case.table].concat());
@@ -182,9 +184,10 @@ fn each_expectation_is_about_its_figure() {
             let line = done.text().lines().next().unwrap_or_default();
             assert_eq!(line.split(';').next(), Some(head.as_str()), "{case}");
             expected += number;
+            of_bulbs += lines.lines().filter(|line| line.contains(" bulb ")).count();
         }
     }
-    assert!(expected > 100_000, "only {expected} expectations");
+    assert!(expected > 100_000 && of_bulbs > 1000, "only {expected} expectations, {of_bulbs} of bulbs");
 }
 
 /// What a run says of the ticks to come holds of as many again, and of no earlier tick.
@@ -207,7 +210,7 @@ fn what_repeats_goes_on_so() {
         assert_eq!(differs, None, "from {from}, {ticks} ticks\n{case}");
         let deciding = |tick: usize| -> Vec<_> {
             let states = long.frames[tick].devices.iter().map(Device::bytes);
-            states.map(|state| [state[0], state[1], state[2], state[3]]).collect()
+            states.map(|state| [state[0], state[1], state[2], state[3], state[9]]).collect()
         };
         assert_eq!(deciding(from), deciding(from + ticks), "from {from}, {ticks} ticks\n{case}");
         if let Some(earlier) = from.checked_sub(1) {

@@ -129,14 +129,14 @@ fn assert_page(name: &str) {
         let own = csv.iter().filter(|fields| fields[1..4].join(",") == position);
         let given: Vec<_> = own
             .map(|fields| match fields[4].as_str() {
-                "RedstoneLamp" => fields[10].clone(),
-                "Lever" | "PressurePlate" => fields[5].clone(),
+                "RedstoneLamp" | "CopperBulb" => fields[10].clone(),
+                "Lever" | "Button" | "PressurePlate" => fields[5].clone(),
                 _ => fields[8].clone(),
             })
             .collect();
         assert_eq!(element.attributes["data-values"], given.join(","), "{name}: {label}");
     }
-    let devices = ["RedstoneLamp", "RedstoneTorch", "Repeater", "Comparator"];
+    let devices = ["RedstoneLamp", "CopperBulb", "RedstoneTorch", "Repeater", "Comparator"];
     let lanes = elements.iter().filter(|(element, _)| element.attributes.contains_key("data-lane")).count();
     assert!(lanes >= of_tick("0").iter().filter(|fields| devices.contains(&fields[4].as_str())).count());
 }
@@ -193,7 +193,7 @@ fn a_page_says_why_it_shows_a_tick() {
 #[test]
 fn a_page_of_every_kind_and_shape_is_well_formed() {
     let kinds = "Solid Transparent RedstoneWire RedstoneTorch Repeater Comparator Lever Button PressurePlate RedstoneLamp \
-                 RedstoneBlock Piston";
+                 RedstoneBlock Piston CopperBulb";
     let shapes = ["plain", "bottom_slab", "top_slab", "double_slab", "bottom_stairs", "top_stairs", "glass"];
     let facings = ["North", "East", "South", "West", "Up", "Down"];
     let mut text = String::new();

@@ -81,8 +81,8 @@ fn grammar(section: &str) -> &str {
 /// Each form, with and without `tick N` and with each of its words, is read.
 #[test]
 fn the_forms_of_expectations_are_read() {
-    const ROWS: &str =
-        "0,0,0 RedstoneWire\n1,0,0 Comparator\n2,0,0 Repeater\n3,0,0 RedstoneTorch\n4,0,0 RedstoneLamp\n";
+    const ROWS: &str = "0,0,0 RedstoneWire\n1,0,0 Comparator\n2,0,0 Repeater\n3,0,0 RedstoneTorch\n4,0,0 RedstoneLamp\n\
+         5,0,0 CopperBulb\n";
     let readme = readme();
     let mut lines = String::new();
     for form in grammar(section(&readme)).lines() {
@@ -93,6 +93,7 @@ fn the_forms_of_expectations_are_read() {
             Some("repeater") => "2,0,0",
             Some("torch" | "candidate") => "3,0,0",
             Some("lamp") => "4,0,0",
+            Some("bulb") => "5,0,0",
             _ => "0,0,0",
         };
         let (start, last) = form.rsplit_once(' ').expect("words");
@@ -103,7 +104,7 @@ fn the_forms_of_expectations_are_read() {
         }
     }
     let expected = lines.lines().count();
-    assert!(expected >= 2 * 9, "{lines}");
+    assert!(expected >= 2 * 10, "{lines}");
     let done = hall_with(&["check", "-"], format!("{ROWS}{lines}").as_bytes());
     assert!(done.text().contains(&format!(" of {expected} expectations; ")), "{}", done.text());
 }

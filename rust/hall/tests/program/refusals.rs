@@ -3,7 +3,10 @@
 use std::fs;
 use std::os::unix::fs::PermissionsExt;
 
-use redstone::{BENCH_PROFILE, Circuit, Kind, ROW_BYTES, Row};
+use redstone::{
+    BENCH_PROFILE, BENCH_PROFILE_WITH_BULB, Circuit, Kind, PROFILE_BYTES, PROFILE_BYTES_WITH_BULB, ROW_BYTES,
+    Row,
+};
 
 use crate::support::{file, folder, hall, hall_with};
 
@@ -39,9 +42,9 @@ fn assert_refused(input: &[u8], place: &str, sentence: &str) {
 
 const PACKED: &str = " (it was taken for the packed form, since it has a zero byte)";
 
-/// What the library says of a packed table.
+/// What the library says of a packed table under a profile of 13 bytes.
 fn refusal(bytes: &[u8]) -> String {
-    let (profile, table) = bytes.split_at(bytes.len().min(13));
+    let (profile, table) = bytes.split_at(bytes.len().min(PROFILE_BYTES));
     Circuit::from_table(profile, table).expect_err("a table that is refused").to_string()
 }
 
@@ -52,7 +55,6 @@ fn each_refusal_of_the_packed_form() {
         (packed(|bytes| bytes[0] = 1), "refusal 1, profile: "),
         (packed(|bytes| bytes[1] = 32), "refusal 1, profile: "),
         (packed(|bytes| bytes[4] = 64), "refusal 1, profile: "),
-        (packed(|bytes| bytes.truncate(50)), "refusal 2, ragged: "),
         (packed(|bytes| bytes[13 + 13] = 7), "refusal 4, bad row: row 0 at 0,0,0: "),
         (packed(|bytes| bytes[13..].rotate_left(ROW_BYTES)), "refusal 5, misplaced: row 1 at 0,0,0 "),
     ] {
@@ -65,11 +67,81 @@ fn each_refusal_of_the_packed_form() {
 /// As the program `settle` has it, before all else.
 #[test]
 fn more_bytes_than_a_table_may_have_are_refusal_3() {
-    let sentence = "refusal 3, crowded: there are more than 32781 bytes, 13 of profile and 1024 rows of 32";
-    assert_refused(&vec![0; 32_782], "", sentence);
-    assert_refused(&vec![0; 1_000_000], "", sentence);
+    let sentence = format!(
+        "refusal 3, crowded: there are more than 32782 bytes, 14 of profile and 1024 rows of 32{PACKED}"
+    );
+    assert_refused(&vec![0; 32_783], "", &sentence);
+    assert_refused(&vec![0; 1_000_000], "", &sentence);
     let zero = hall(&["run", "/dev/zero"]);
     assert_eq!((zero.status, zero.err), (Some(2), format!("hall: /dev/zero: {sentence}.\n")));
+}
+
+/// The most rows, under a profile of 13 bytes and of 14.
+#[test]
+fn as_many_bytes_as_a_table_may_have_are_read() {
+    let table = redstone::table((0..1024).map(|x| Row::new(Kind::Solid, [x, 0, 0])));
+    for profile in [&BENCH_PROFILE[..], &BENCH_PROFILE_WITH_BULB] {
+        let bytes = [profile, &table].concat();
+        let done = hall_with(&["pack", "-"], &bytes);
+        assert_eq!((done.status, done.out), (Some(0), bytes), "{}", done.err);
+    }
+}
+
+/// The length tells a profile of 13 bytes from one of 14, and is looked at before the profile, which here is bad; but less
+/// than a profile is refused as that.
+#[test]
+fn a_length_that_is_no_profile_and_rows_is_refusal_2() {
+    for length in (1..130).chain(32_700..=32_782) {
+        let mut bytes = vec![0; length];
+        bytes[0] = 1;
+        let done = hall_with(&["run", "-"], &bytes);
+        let number = match length {
+            ..13 => 1,
+            _ if [PROFILE_BYTES, PROFILE_BYTES_WITH_BULB].contains(&(length % ROW_BYTES)) => 1,
+            _ => 2,
+        };
+        let start = match (number, length) {
+            (1, 1) => "hall: standard input:1:1: ".to_owned(), // no zero byte: a text
+            _ => format!("hall: standard input: refusal {number}, "),
+        };
+        assert!(done.err.starts_with(&start), "{length} bytes: {}", done.err);
+    }
+    let sentence = "refusal 2, ragged: there are 50 bytes; they must be 13 of profile, or 14 with the bulb's, and 32 for \
+                    each row";
+    assert_refused(&packed(|bytes| bytes.truncate(50)), "", &format!("{sentence}{PACKED}"));
+}
+
+/// In a hall's line, in a file that --profile names, and packed.
+#[test]
+fn a_bulb_without_its_byte_of_the_profile_says_what_to_do() {
+    const ROWS: &str = "0,0,0 Solid\n1,0,0 CopperBulb\n";
+    let table = redstone::table([Row::new(Kind::Solid, [0, 0, 0]), Row::new(Kind::CopperBulb, [1, 0, 0])]);
+    let packed = [&BENCH_PROFILE[..], &table].concat();
+    let library = refusal(&packed);
+    assert!(
+        library.starts_with("refusal 4, bad row: row 1 at 1,0,0: kind (byte 12) is 13; that is CopperBulb,")
+    );
+    let sentence = format!(
+        "{library} (write CopperBulb=7 into the line `profile`, or give a profile that has it with --profile)"
+    );
+    assert_refused(format!("profile Solid=31\n{ROWS}").as_bytes(), "3:", &sentence);
+    assert_refused(&packed, "", &format!("{sentence}{PACKED}"));
+    let without = file("bulb_without", "without.txt", "profile Solid=31\n");
+    let done = hall_with(&["run", "-", "--profile", &without], ROWS.as_bytes());
+    assert_eq!((done.status, done.err), (Some(2), format!("hall: standard input:2: {sentence}.\n")));
+
+    // Each of what it says to do.
+    let with = file("bulb_with", "with.txt", "profile Solid=31 CopperBulb=7\n");
+    for (words, input) in [
+        (vec![], format!("profile Solid=31 CopperBulb=7\n{ROWS}").into_bytes()),
+        (vec!["--profile", &with], ROWS.into()),
+        (vec!["--profile", &with], packed),
+        (vec![], ROWS.into()),
+    ] {
+        let done = hall_with(&[&["unpack", "-"], &words[..]].concat(), &input);
+        assert_eq!((done.status, done.err.as_str()), (Some(0), ""));
+        assert!(done.text().ends_with(&format!("blocks=2\n{ROWS}")), "{}", done.text());
+    }
 }
 
 #[test]
@@ -138,7 +210,7 @@ fn the_value_of_the_torch_is_taken_wherever_a_profile_stands() {
         let profile = [0, 31, 0, 0, byte, 0, 0, 0, 0, 0, 0, 0, 0];
         let text = file("torch_line", "line.txt", &line);
         let bytes = file("torch_bytes", "bytes.bin", profile);
-        let table = hall_with(&["pack", "-"], ROWS.as_bytes()).out.split_off(profile.len());
+        let table = hall_with(&["pack", "-"], ROWS.as_bytes()).out.split_off(PROFILE_BYTES_WITH_BULB);
         for (words, input) in [
             (vec![], format!("{line}{ROWS}").into_bytes()),
             (vec!["--profile", &text], ROWS.into()),
@@ -174,7 +246,8 @@ fn another_profile_is_taken_for_the_file() {
     // With a profile in which nothing takes power, the lever's block has none.
     let text = file("profile", "none.txt", "# Nothing takes power.\nprofile\n");
     let bytes = file("profile_bytes", "none.bin", [0; 13]);
-    for name in [&text, &bytes] {
+    let with_bulb = file("profile_with_bulb", "none.bin", [0; 14]);
+    for name in [&text, &bytes, &with_bulb] {
         let done =
             hall(&["csv", "halls/vault-door.hall", "--ticks=0", "--switch=0:0,1,0=on", "--profile", name]);
         assert_eq!(done.status, Some(0), "{}", done.err);
@@ -194,8 +267,9 @@ fn another_profile_is_taken_for_the_file() {
     }
     // The file at fault is named, and no hall.
     let short = file("profile_short", "short.bin", [0; 12]);
+    let long = file("profile_long", "long.bin", [0; 15]);
     let large = file("profile_large", "large.txt", "profile Solid=32\n");
-    for name in [&short, &large] {
+    for name in [&short, &long, &large] {
         for command in ["run", "check"] {
             let done = hall(&[command, "halls/vault-door.hall", "--profile", name]);
             assert_eq!((done.status, done.text()), (Some(2), ""), "{command}");
@@ -213,8 +287,17 @@ fn a_file_that_ends_within_its_profile_is_refused_with_another_profile_too() {
         assert_eq!((done.status, done.text()), (Some(2), ""), "{length} bytes");
         assert_eq!(done.err, format!("hall: standard input: {}{PACKED}.\n", refusal(&bytes)));
     }
-    let whole = hall_with(&["unpack", "-", "--profile", &profile], &packed(|bytes| bytes.truncate(13)));
-    assert_eq!((whole.status, whole.text()), (Some(0), "blocks=0\n"), "{}", whole.err);
+    // One that ends with its profile, of either length, has the other.
+    let line = "profile Solid=31 Transparent=1 RedstoneLamp=31 RedstoneBlock=1\n";
+    for length in [PROFILE_BYTES, PROFILE_BYTES_WITH_BULB] {
+        let whole = hall_with(&["unpack", "-", "--profile", &profile], &vec![0; length]);
+        assert_eq!(
+            (whole.status, whole.text()),
+            (Some(0), format!("{line}blocks=0\n").as_str()),
+            "{}",
+            whole.err
+        );
+    }
 }
 
 /// A mistyped name costs no page that was there.

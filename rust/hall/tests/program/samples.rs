@@ -5,7 +5,7 @@ use redstone::BENCH_PROFILE;
 use crate::support::{file, hall, samples};
 
 #[test]
-fn there_are_seven_halls_and_nothing_else() {
+fn there_are_eight_halls_and_nothing_else() {
     let names = [
         "comparator-subtract",
         "fading-line",
@@ -14,6 +14,7 @@ fn there_are_seven_halls_and_nothing_else() {
         "torch-clock",
         "vault-door",
         "charging/torch-tower",
+        "bulbs/bulb-toggle",
     ];
     assert_eq!(samples(), names.map(|name| format!("halls/{name}.hall")));
 }
@@ -33,6 +34,24 @@ fn the_torch_tower_needs_its_profile() {
     let done = hall(&["check", TOWER, "--profile", &bench]);
     assert_eq!(done.status, Some(1));
     assert!(done.text().contains(": expected strong 0,2,0 = 15, given 0\n"), "{}", done.text());
+}
+
+/// Under a profile without their byte its bulbs are refused, and with none for power they flip never.
+#[test]
+fn the_bulb_toggle_needs_the_byte_of_the_bulb() {
+    const TOGGLE: &str = "halls/bulbs/bulb-toggle.hall";
+    let bench = file("toggle_bench", "bench.bin", BENCH_PROFILE);
+    let done = hall(&["check", TOGGLE, "--profile", &bench]);
+    assert_eq!(done.status, Some(2));
+    assert!(
+        done.text().contains(&format!("    {TOGGLE}:11: refusal 4, bad row: row 2 at 1,0,0: ")),
+        "{}",
+        done.text()
+    );
+    let powerless = file("toggle_powerless", "powerless.bin", [&BENCH_PROFILE[..], &[1]].concat());
+    let done = hall(&["run", TOGGLE, "--profile", &powerless]);
+    assert!(done.text().contains("\nbulb 1,0,0              ---------------------\n"), "{}", done.text());
+    assert!(done.text().contains("\nbulb 4,1,0              .....................\n"), "{}", done.text());
 }
 
 #[test]

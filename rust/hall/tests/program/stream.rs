@@ -3,7 +3,7 @@
 use std::process::Command;
 
 use differential::program::find;
-use redstone::{Kind, PROFILE_BYTES, ROW_BYTES, Row};
+use redstone::{BENCH_PROFILE, Kind, PROFILE_BYTES, PROFILE_BYTES_WITH_BULB, ROW_BYTES, Row};
 
 use hall::read;
 
@@ -19,13 +19,10 @@ fn stream(files: &[String]) -> Vec<u8> {
 
 #[test]
 fn the_tables_stand_after_one_profile_each_led_by_its_row_count() {
-    let mut expected = Vec::new();
+    let mut expected = BENCH_PROFILE.to_vec();
     for sample in bench_samples() {
         let packed = hall(&["pack", &sample]).out;
-        let (profile, table) = packed.split_at(PROFILE_BYTES);
-        if expected.is_empty() {
-            expected.extend(profile);
-        }
+        let table = &packed[PROFILE_BYTES_WITH_BULB..];
         expected.extend(((table.len() / ROW_BYTES) as u32).to_le_bytes());
         expected.extend(table);
     }
@@ -91,6 +88,32 @@ fn halls_of_another_profile_are_refused() {
     assert_eq!(done.status, Some(0), "{}", done.err);
     assert_eq!(done.out[..PROFILE_BYTES], [0, 31, 0, 0, 0, 0, 0, 0, 0, 0, 0, 0, 0]);
     assert_eq!(done.out.len(), PROFILE_BYTES + 2 * (4 + ROW_BYTES));
+}
+
+/// The bulb's byte is none of a stream's, whatever it is: halls that have it, and one that has not, are of one profile.
+#[test]
+fn a_stream_leaves_out_the_byte_of_the_bulb() {
+    let rows = "0,0,0 Solid\n";
+    let hall = |name: &str, field: &str| file(name, "a.hall", format!("profile Solid=31{field}\n{rows}"));
+    let [none, zero, seven] = [
+        hall("stream_no_bulb", ""),
+        hall("stream_bulb_0", " CopperBulb=0"),
+        hall("stream_bulb_7", " CopperBulb=7"),
+    ];
+    let bytes = stream(&[seven, none.clone(), zero]);
+    assert_eq!(bytes[..PROFILE_BYTES], [0, 31, 0, 0, 0, 0, 0, 0, 0, 0, 0, 0, 0]);
+    assert_eq!(bytes, stream(&[none.clone(), none.clone(), none]));
+}
+
+#[test]
+fn halls_with_bulbs_are_refused() {
+    const TOGGLE: &str = "halls/bulbs/bulb-toggle.hall";
+    let done = hall(&["stream", "halls/slab-rise.hall", TOGGLE]);
+    let sentence = "bulb 1,0,0 is in it, and `month` takes no bulbs: leave this hall out";
+    assert_eq!(
+        (done.status, done.out, done.err),
+        (Some(2), vec![], format!("hall: {TOGGLE}: {sentence}.\n"))
+    );
 }
 
 #[test]

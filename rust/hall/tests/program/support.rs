@@ -54,12 +54,12 @@ pub fn run(command: &mut Command, input: &[u8]) -> Done {
 
 /// The sample halls, as in `halls/vault-door.hall`.
 pub fn samples() -> Vec<String> {
-    [bench_samples(), charging_samples()].concat()
+    [bench_samples(), charging_samples(), names(BULBS)].concat()
 }
 
-/// Those of the bench profile, as `halls/*.hall` names them.
+/// Those of the bench profile without bulbs, as `halls/*.hall` names them.
 pub fn bench_samples() -> Vec<String> {
-    names("halls").into_iter().filter(|name| name != CHARGING).collect()
+    names("halls").into_iter().filter(|name| name != CHARGING && name != BULBS).collect()
 }
 
 /// Those of the bench profile with the value by which torches charge the block above.
@@ -68,6 +68,7 @@ pub fn charging_samples() -> Vec<String> {
 }
 
 const CHARGING: &str = "halls/charging";
+const BULBS: &str = "halls/bulbs";
 
 /// What stands in a folder of the repository.
 fn names(folder: &str) -> Vec<String> {

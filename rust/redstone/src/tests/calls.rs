@@ -2,8 +2,8 @@
 
 use super::{Lent, UNTOUCHED};
 use crate::{
-    Arm, BENCH_PROFILE, Device, Kind, MOST_ROWS, ROW_BYTES, Refusal, Rounds, Row, STATE_BYTES, fresh, redraw,
-    rows, settle, supports, switch, table, tick,
+    Arm, BENCH_PROFILE, BENCH_PROFILE_WITH_BULB, Device, Kind, MOST_ROWS, ROW_BYTES, Refusal, Rounds, Row,
+    STATE_BYTES, fresh, redraw, rows, settle, supports, switch, table, tick,
 };
 
 /// The number and the row of a refusal.
@@ -131,20 +131,35 @@ const CALLS: [Call; 6] = [
     |profile, of| refused(supports(profile, &of.table, &mut of.list)),
 ];
 
+/// That every call answers so under a profile, and writes exactly where it is not refused.
+fn assert_each(profile: &[u8], refused: Option<(u32, usize)>) {
+    for call in CALLS {
+        let mut buffers = Buffers::new();
+        assert_eq!(call(profile, &mut buffers), refused, "{profile:?}");
+        assert_eq!(refused.is_some(), buffers.untouched(), "{profile:?}");
+    }
+}
+
 /// Air's byte may be 0, the torch's at most 63, and each other at most 31.
 #[test]
 fn a_profile_byte_is_refused_exactly_above_its_limit() {
-    for (kind, most) in [0, 31, 31, 31, 63, 31, 31, 31, 31, 31, 31, 31, 31].into_iter().enumerate() {
-        for value in 0..=u8::MAX {
-            let mut profile = BENCH_PROFILE;
-            profile[kind] = value;
-            for call in CALLS {
-                let mut buffers = Buffers::new();
-                let answer = call(&profile, &mut buffers);
-                assert_eq!(answer, (value > most).then_some((1, 0)), "byte {kind} is {value}");
-                assert_eq!(answer.is_some(), buffers.untouched(), "byte {kind} is {value}");
+    let limits = [0, 31, 31, 31, 63, 31, 31, 31, 31, 31, 31, 31, 31, 31];
+    for bench in [&BENCH_PROFILE[..], &BENCH_PROFILE_WITH_BULB] {
+        for (kind, most) in limits.into_iter().take(bench.len()).enumerate() {
+            for value in 0..=u8::MAX {
+                let mut profile = bench.to_vec();
+                profile[kind] = value;
+                assert_each(&profile, (value > most).then_some((1, 0)));
             }
         }
+    }
+}
+
+#[test]
+fn a_profile_has_13_or_14_bytes() {
+    for length in 0..=64 {
+        let is_good = length == 13 || length == 14;
+        assert_each(&vec![0; length], (!is_good).then_some((1, 0)));
     }
 }
 

@@ -2,13 +2,14 @@
 
 use super::Lent;
 use crate::{
-    Arm, BENCH_PROFILE, Circuit, Device, Facing, Fault, Figures, Kind, Rounds, Row, STATE_BYTES, fresh,
-    redraw, settle, switch, table, tick,
+    Arm, BENCH_PROFILE_WITH_BULB, Circuit, Device, Facing, Fault, Figures, Kind, PROFILE_BYTES_WITH_BULB,
+    Rounds, Row, STATE_BYTES, fresh, redraw, settle, switch, table, tick,
 };
 
+const PROFILE: [u8; PROFILE_BYTES_WITH_BULB] = BENCH_PROFILE_WITH_BULB;
 const LEVER: [i32; 3] = [0, 1, 0];
 
-/// A lever on a block, dust beside the block, a repeater and a lamp; and a torch that nothing holds up.
+/// A lever on a block, dust beside the block, a repeater, a lamp and a bulb; and a torch that nothing holds up.
 fn rows() -> Vec<Row> {
     let on_floor = |kind, position| Row::new(kind, position).with_support([0, -1, 0]);
     vec![
@@ -19,12 +20,13 @@ fn rows() -> Vec<Row> {
         Row::new(Kind::Solid, [2, -1, 0]),
         on_floor(Kind::Repeater, [2, 0, 0]).with_facing(Facing::East).with_delay(2),
         Row::new(Kind::RedstoneLamp, [3, 0, 0]),
+        Row::new(Kind::CopperBulb, [4, 0, 0]),
         on_floor(Kind::RedstoneTorch, [9, 9, 9]),
     ]
 }
 
 fn circuit() -> Circuit {
-    Circuit::new(&BENCH_PROFILE, rows()).expect("an accepted table")
+    Circuit::new(&PROFILE, rows()).expect("an accepted table")
 }
 
 /// The same by the calls: table, state and columns.
@@ -38,18 +40,18 @@ impl ByCalls {
     fn new() -> Self {
         let table = table(rows());
         let (mut state, mut lent) = (vec![0; STATE_BYTES * rows().len()], Lent::new(rows().len()));
-        fresh(&BENCH_PROFILE, &table, &mut state, lent.columns()).expect("an accepted table");
+        fresh(&PROFILE, &table, &mut state, lent.columns()).expect("an accepted table");
         Self { table, state, lent }
     }
 
     fn tick(&mut self, number: u32, ticks: u32) -> Rounds {
         let Self { table, state, lent } = self;
-        tick(&BENCH_PROFILE, table, state, number, ticks, lent.columns()).expect("an accepted state")
+        tick(&PROFILE, table, state, number, ticks, lent.columns()).expect("an accepted state")
     }
 
     fn switch(&mut self, on: bool) -> Rounds {
         let Self { table, state, lent } = self;
-        switch(&BENCH_PROFILE, table, state, LEVER, on, lent.columns()).expect("an accepted state")
+        switch(&PROFILE, table, state, LEVER, on, lent.columns()).expect("an accepted state")
     }
 }
 
@@ -102,6 +104,7 @@ fn figures_and_devices_are_there_by_row_and_by_position() {
     assert_eq!(at([1, 0, 0]).figures.signal, 15);
     assert_eq!(at([2, 0, 0]).device, Device::Repeater { powered: true, queue: 0b11 });
     assert_eq!(at([3, 0, 0]).device, Device::Lamp { lit: true, ticks_left: 0 });
+    assert_eq!(at([4, 0, 0]).device, Device::Bulb { lit: true, had_power: true });
     assert_eq!(at([9, 9, 9]).device, Device::Torch { lit: true, toggles: 0, candidate: false });
     assert_eq!(at(LEVER).row, rows()[0].with_powered(true));
     assert_eq!(circuit.at([0, 0, 1]), None);
@@ -153,8 +156,7 @@ fn a_circuit_goes_on_from_where_it_was_kept() {
     resumed.tick(3).expect("accepted");
     assert_eq!(resumed, whole);
 
-    let refusal =
-        Circuit::resume(&BENCH_PROFILE, table(rows()), [0; STATE_BYTES], 0).expect_err("a short state");
+    let refusal = Circuit::resume(&PROFILE, table(rows()), [0; STATE_BYTES], 0).expect_err("a short state");
     assert_eq!(refusal.number, 6);
 }
 
@@ -163,7 +165,7 @@ fn a_refused_tick_changes_nothing() {
     let circuit = circuit();
     let state = circuit.state().to_vec();
     let mut late =
-        Circuit::resume(&BENCH_PROFILE, circuit.table(), state, u32::MAX - 1).expect("an accepted state");
+        Circuit::resume(&PROFILE, circuit.table(), state, u32::MAX - 1).expect("an accepted state");
     late.tick(1).expect("one tick is left");
     let before = late.clone();
     assert_eq!(
@@ -177,12 +179,12 @@ fn a_refused_tick_changes_nothing() {
 fn a_circuit_draws_its_arms_and_settles_with_them() {
     let mut circuit = circuit();
     let mut by_call = circuit.table().to_vec();
-    redraw(&BENCH_PROFILE, &mut by_call).expect("an accepted table");
+    redraw(&PROFILE, &mut by_call).expect("an accepted table");
     circuit.redraw().expect("an accepted table");
     assert_eq!(circuit.table(), by_call);
     let arms = circuit.at([1, 0, 0]).expect("dust").row.arms();
     assert_eq!(arms, Some([None, Some(Arm::Side), None, Some(Arm::Side)]));
-    assert_eq!(circuit, Circuit::from_table(&BENCH_PROFILE, by_call).expect("accepted"));
+    assert_eq!(circuit, Circuit::from_table(&PROFILE, by_call).expect("accepted"));
 }
 
 #[test]
@@ -194,7 +196,7 @@ fn a_circuit_lists_what_nothing_holds_up() {
 
 #[test]
 fn an_empty_circuit_settles() {
-    let mut circuit = Circuit::new(&BENCH_PROFILE, []).expect("accepted");
+    let mut circuit = Circuit::new(&PROFILE, []).expect("accepted");
     assert!(circuit.is_empty() && circuit.blocks().next().is_none());
     assert_eq!(circuit.rounds().get(), 1);
     assert_eq!(circuit.tick(3).map(Rounds::get), Ok(1));
@@ -204,7 +206,7 @@ fn an_empty_circuit_settles() {
 #[test]
 fn a_circuit_is_made_of_accepted_tables_alone() {
     assert_eq!(Circuit::new(&[], []).expect_err("no profile").fault, Fault::ProfileLength { length: 0 });
-    assert_eq!(Circuit::from_table(&BENCH_PROFILE, [0; 31]).expect_err("ragged").number, 2);
+    assert_eq!(Circuit::from_table(&PROFILE, [0; 31]).expect_err("ragged").number, 2);
 }
 
 /// A state's row is read into what packs to its bytes again.
@@ -212,11 +214,21 @@ fn a_circuit_is_made_of_accepted_tables_alone() {
 fn devices_go_both_ways() {
     let kinds = Kind::ALL.iter().map(|&kind| Row::new(kind, [0; 3]));
     let delays = (0..6).map(|delay| Row::new(Kind::Repeater, [0; 3]).with_delay(delay));
+    // Each device with all that it can have at once.
+    let full = [
+        &[][..],
+        &[(0, 1), (1, 1)],
+        &[(0, 1), (4, 1), (8, 1)],
+        &[(0, 200)],
+        &[(2, 1), (3, 2)],
+        &[(2, 1), (9, 1)],
+    ];
     let mut read = 0;
     for row in kinds.chain(delays) {
-        for at in 0..STATE_BYTES {
-            for (value, other) in (0..=u8::MAX).flat_map(|value| [(value, 0), (value, 1)]) {
-                let mut bytes = [other, other, other, 0, 0, 0, 0, 0, other, 0, 0, 0, 0, 0, 0, 0];
+        for given in full {
+            for (at, value) in (0..STATE_BYTES).flat_map(|at| (0..=u8::MAX).map(move |value| (at, value))) {
+                let mut bytes = [0; STATE_BYTES];
+                given.iter().for_each(|&(at, value)| bytes[at] = value);
                 bytes[at] = value;
                 if let Ok(device) = Device::read(&row, &bytes) {
                     assert_eq!(device.bytes(), bytes);

@@ -2,8 +2,9 @@
 
 use super::Lent;
 use crate::{
-    BENCH_PROFILE, Buffer, Circuit, Device, Facing, Fault, Kind, MOST_ROWS, PROFILE_BYTES, ROW_BYTES,
-    Refusal, Row, STATE_BYTES, checks, find, fresh, redraw, settle, supports, switch, table, tick,
+    BENCH_PROFILE, BENCH_PROFILE_WITH_BULB, Buffer, Circuit, Device, Facing, Fault, Kind, MOST_ROWS,
+    PROFILE_BYTES, ROW_BYTES, Refusal, Row, STATE_BYTES, checks, find, fresh, redraw, settle, supports,
+    switch, table, tick,
 };
 
 /// What all calls take.
@@ -24,11 +25,11 @@ struct Input {
 }
 
 impl Input {
-    fn new(rows: impl IntoIterator<Item = Row>) -> Self {
-        let circuit = Circuit::new(&BENCH_PROFILE, rows).expect("accepted");
+    fn new(profile: &[u8], rows: impl IntoIterator<Item = Row>) -> Self {
+        let circuit = Circuit::new(profile, rows).expect("accepted");
         let rows = circuit.len();
         Self {
-            profile: BENCH_PROFILE.to_vec(),
+            profile: profile.to_vec(),
             table: circuit.table().to_vec(),
             devices: circuit.devices(),
             state: circuit.state().to_vec(),
@@ -45,7 +46,7 @@ impl Input {
         let repeater =
             |z, delay| Row::new(Kind::Repeater, [-1, 0, z]).with_facing(Facing::East).with_delay(delay);
         let torch = |z| Row::new(Kind::RedstoneTorch, [-2, 0, z]).with_support([0, -1, 0]);
-        let mut input = Self::new([
+        let rows = [
             repeater(0, 2),
             repeater(1, 9),
             torch(0),
@@ -53,13 +54,18 @@ impl Input {
             Row::new(Kind::Comparator, [-3, 0, 0]).with_power_level(200).with_subtract(true),
             Row::new(Kind::RedstoneLamp, [-4, 0, 0]),
             Row::new(Kind::RedstoneWire, [-5, 0, 0]).with_arms([None; 4]),
-        ]);
+            Row::new(Kind::CopperBulb, [0, 0, 0]),
+            Row::new(Kind::CopperBulb, [0, 0, 1]),
+        ];
+        let mut input = Self::new(&BENCH_PROFILE_WITH_BULB, rows);
         for (at, device) in [
             ([-1, 0, 0], Device::Repeater { powered: true, queue: 0b01 }),
             ([-1, 0, 1], Device::Repeater { powered: false, queue: 0b1010 }),
             ([-2, 0, 0], Device::Torch { lit: true, toggles: 0b0111_1111, candidate: false }),
             ([-2, 0, 1], Device::Torch { lit: false, toggles: 0x5555_5555, candidate: true }),
             ([-4, 0, 0], Device::Lamp { lit: true, ticks_left: 2 }),
+            ([0, 0, 0], Device::Bulb { lit: true, had_power: false }),
+            ([0, 0, 1], Device::Bulb { lit: false, had_power: true }),
         ] {
             let row = find(&input.table, at).expect("a row");
             input.state[STATE_BYTES * row..][..STATE_BYTES].copy_from_slice(&device.bytes());
@@ -69,7 +75,8 @@ impl Input {
 
     /// A row of each kind.
     fn all_kinds() -> Self {
-        Self::new((0..).zip(Kind::ALL).map(|(x, &kind)| Row::new(kind, [x, 0, 0])))
+        let rows = (0..).zip(Kind::ALL).map(|(x, &kind)| Row::new(kind, [x, 0, 0]));
+        Self::new(&BENCH_PROFILE_WITH_BULB, rows)
     }
 
     /// What every call answers, where it is refused. The reason has the number and the row of the answer; and where a
@@ -140,11 +147,13 @@ fn every_byte(input: &Input, of: impl Fn(&mut Input) -> &mut [u8]) {
 #[test]
 fn reasons_agree_with_the_answers_on_every_profile_byte() {
     every_byte(&Input::devices(), |input| &mut input.profile);
+    every_byte(&small(), |input| &mut input.profile);
 }
 
 #[test]
 fn reasons_agree_with_the_answers_on_every_table_byte() {
     every_byte(&Input::devices(), |input| &mut input.table);
+    every_byte(&small(), |input| &mut input.table);
 }
 
 #[test]
@@ -189,9 +198,10 @@ fn reasons_agree_with_the_answers_on_every_length() {
 /// Two things wrong at once: the first of the table of refusals is given.
 #[test]
 fn reasons_agree_with_the_answers_on_two_faults() {
-    let changes: [fn(&mut Input); 14] = [
+    let changes: [fn(&mut Input); 16] = [
         |input| input.profile[0] = 1,
-        |input| input.profile.push(0),
+        |input| input.profile.resize(20, 0),
+        |input| input.profile.truncate(PROFILE_BYTES),
         |input| input.table.push(0),
         |input| input.table.resize(ROW_BYTES * (MOST_ROWS + 1), 0),
         |input| input.table[ROW_BYTES + 13] = 7,
@@ -200,6 +210,7 @@ fn reasons_agree_with_the_answers_on_two_faults() {
         |input| input.devices[6] = 255,
         |input| input.state.push(0),
         |input| input.state[9] = 1,
+        |input| input.state[10] = 1,
         |input| input.fresh += 1,
         |input| input.columns[2] += 1,
         |input| input.limit = 1,
@@ -215,21 +226,36 @@ fn reasons_agree_with_the_answers_on_two_faults() {
     }
 }
 
-/// A repeater and a lamp, to see each message.
+/// A repeater and a lamp, under a profile without the bulb's byte.
 fn small() -> Input {
-    Input::new([Row::new(Kind::Repeater, [0, 0, 0]).with_delay(2), Row::new(Kind::RedstoneLamp, [1, 2, 3])])
+    let rows = [Row::new(Kind::Repeater, [0, 0, 0]).with_delay(2), Row::new(Kind::RedstoneLamp, [1, 2, 3])];
+    Input::new(&BENCH_PROFILE, rows)
 }
 
-/// What a change is refused with.
-fn message(change: impl FnOnce(&mut Input)) -> String {
-    let mut input = small();
+/// A bulb and a lamp.
+fn bulb() -> Input {
+    let rows = [Row::new(Kind::CopperBulb, [0, 0, 0]), Row::new(Kind::RedstoneLamp, [1, 2, 3])];
+    Input::new(&BENCH_PROFILE_WITH_BULB, rows)
+}
+
+/// What a changed input is refused with.
+fn message_of(mut input: Input, change: impl FnOnce(&mut Input)) -> String {
     change(&mut input);
     input.fault().to_string()
 }
 
+fn message(change: impl FnOnce(&mut Input)) -> String {
+    message_of(small(), change)
+}
+
 #[test]
 fn each_reason_says_what_is_wrong_and_what_would_be_right() {
-    assert_eq!(message(|input| input.profile.truncate(12)), "the profile has length 12; it must be 13");
+    for length in [12, 15] {
+        assert_eq!(
+            message(|input| input.profile.resize(length, 0)),
+            format!("the profile has length {length}; it must be 13, or 14 with the bulb's byte")
+        );
+    }
     assert_eq!(
         message(|input| input.profile[3] = 64),
         "byte 3 of the profile, RedstoneWire's, is 64; it may be at most 31"
@@ -273,7 +299,7 @@ fn each_reason_says_what_is_wrong_and_what_would_be_right() {
     );
     assert_eq!(
         message(|input| input.state[STATE_BYTES + 3] = 1),
-        "the state's row 1, of a RedstoneLamp at 1,2,3: ticks left (byte 3) is 1; it must be 0, as lamp lit \
+        "the state's row 1, of a RedstoneLamp at 1,2,3: ticks left (byte 3) is 1; it must be 0, as lit \
          (byte 2) is"
     );
     assert_eq!(
@@ -303,12 +329,70 @@ fn the_reason_says_whose_the_value_of_the_torch_is() {
         message(|input| input.profile[7] = 32),
         format!("byte 7 of the profile, Lever's, is 32; it may be at most 31{tip}")
     );
-    for (kind, most) in [(0, 0), (1, 31), (3, 31), (4, 63), (5, 31), (12, 31)] {
+    for (kind, most) in [(0, 0), (1, 31), (3, 31), (4, 63), (5, 31), (12, 31), (13, 31)] {
         for value in most + 1..=u8::MAX {
-            let is_said = message(|input| input.profile[kind] = value).ends_with(tip);
+            let is_said = message_of(bulb(), |input| input.profile[kind] = value).ends_with(tip);
             assert_eq!(is_said, kind != 4 && (32..=32 + most).contains(&value), "byte {kind} is {value}");
         }
     }
+}
+
+/// What a bulb's row, byte of the profile and state may be, and what those of other kinds may not.
+#[test]
+fn the_reason_says_what_a_bulb_may_have() {
+    assert_eq!(
+        message_of(bulb(), |input| input.profile.truncate(13)),
+        "row 0 at 0,0,0: kind (byte 12) is 13; that is CopperBulb, and the profile has 13 bytes: give it a \
+         fourteenth, the bulb's, as BENCH_PROFILE_WITH_BULB has"
+    );
+    assert_eq!(
+        message_of(bulb(), |input| input.profile[13] = 64),
+        "byte 13 of the profile, CopperBulb's, is 64; it may be at most 31"
+    );
+    let state = |at: usize, value| message_of(bulb(), move |input| input.state[at] = value);
+    let of_bulb = "the state's row 0, of a CopperBulb at 0,0,0";
+    assert_eq!(state(2, 2), format!("{of_bulb}: lit (byte 2) is 2; it may be from 0 to 1"));
+    assert_eq!(
+        state(3, 1),
+        format!("{of_bulb}: ticks left (byte 3) is 1; it must be 0, as the row is no lamp")
+    );
+    assert_eq!(state(9, 2), format!("{of_bulb}: had power (byte 9) is 2; it may be from 0 to 1"));
+    assert_eq!(state(10, 1), format!("{of_bulb}: unused (byte 10) is 1; it must be 0"));
+    assert_eq!(
+        state(STATE_BYTES + 9, 1),
+        "the state's row 1, of a RedstoneLamp at 1,2,3: had power (byte 9) is 1; it must be 0, as the row is no bulb"
+    );
+    assert_eq!(
+        message(|input| input.state[2] = 1),
+        "the state's row 0, of a Repeater at 0,0,0: lit (byte 2) is 1; it must be 0, as the row is no lamp or bulb"
+    );
+    assert_eq!(
+        message_of(bulb(), |input| input.devices[0] = 1),
+        "the device column's row 0, of a CopperBulb at 0,0,0: device (byte 0) is 1; it must be 0, as the row is no \
+         repeater, torch or comparator"
+    );
+}
+
+/// Without the bulb's byte a bulb is as any field outside the layout: the first such row counts, and in it the first
+/// such field.
+#[test]
+fn a_bulb_without_its_byte_is_a_fault_among_others() {
+    let place = |change: fn(&mut Input)| {
+        let mut input = bulb();
+        input.profile.truncate(PROFILE_BYTES);
+        change(&mut input);
+        let fault = input.fault();
+        match fault {
+            Fault::BadRow { row, field, .. } => (row, field.name()),
+            _ => panic!("{fault}"),
+        }
+    };
+    assert_eq!(place(|_| {}), (0, "kind"));
+    assert_eq!(place(|input| input.table[ROW_BYTES + 28] = 7), (0, "kind"));
+    assert_eq!(place(|input| input.table[13] = 7), (0, "kind"));
+    assert_eq!(place(|input| input.table[3] = 1), (0, "x"));
+    assert_eq!(place(|input| input.table.swap(12, ROW_BYTES + 12)), (1, "kind"));
+    assert_eq!(place(|input| input.table.copy_within(0..12, ROW_BYTES)), (0, "kind"));
 }
 
 #[test]

@@ -4,8 +4,8 @@ use std::fmt::Display;
 
 use crate::c::{DECLARED, Parameter};
 use crate::{
-    Arm, BENCH_PROFILE, FARTHEST, Facing, Kind, MOST_ROWS, PROFILE_BYTES, ROW_BYTES, Rounds, STATE_BYTES,
-    Shape, TORCH_CHARGES_ABOVE,
+    Arm, BENCH_PROFILE, BENCH_PROFILE_WITH_BULB, FARTHEST, Facing, Kind, MOST_ROWS, PROFILE_BYTES,
+    PROFILE_BYTES_WITH_BULB, ROW_BYTES, Rounds, STATE_BYTES, Shape, TORCH_CHARGES_ABOVE,
 };
 
 const HEADER: &str = include_str!("../../include/redstone.h");
@@ -98,6 +98,7 @@ fn defined() -> Vec<(&'static str, &'static str)> {
 fn the_header_has_the_constants() {
     let sizes = [
         ("PROFILE_BYTES", PROFILE_BYTES),
+        ("PROFILE_BYTES_WITH_BULB", PROFILE_BYTES_WITH_BULB),
         ("ROW_BYTES", ROW_BYTES),
         ("STATE_BYTES", STATE_BYTES),
         ("MOST_ROWS", MOST_ROWS),
@@ -106,15 +107,22 @@ fn the_header_has_the_constants() {
     ];
     let sizes = sizes.map(|(name, size)| (format!("REDSTONE_{name}"), size.to_string()));
     let torch = ("REDSTONE_TORCH_CHARGES_ABOVE".to_owned(), TORCH_CHARGES_ABOVE.to_string());
-    let profile = BENCH_PROFILE.map(|byte| byte.to_string()).join(", ");
-    let profile = ("REDSTONE_BENCH_PROFILE".to_owned(), format!("{{{profile}}}"));
+    let profile = |name: &str, bytes: &[u8]| {
+        let bytes: Vec<_> = bytes.iter().map(u8::to_string).collect();
+        (format!("REDSTONE_{name}"), format!("{{{}}}", bytes.join(", ")))
+    };
+    let profiles = [
+        profile("BENCH_PROFILE", &BENCH_PROFILE),
+        profile("BENCH_PROFILE_WITH_BULB", &BENCH_PROFILE_WITH_BULB),
+    ];
     let constants = sizes
         .into_iter()
         .chain(codes("KIND", Kind::ALL))
         .chain(codes("FACING", Facing::ALL))
         .chain(codes("ARM", Arm::ALL))
         .chain(codes("SHAPE", Shape::ALL))
-        .chain([torch, profile]);
+        .chain([torch])
+        .chain(profiles);
     let defined = defined().into_iter().map(|(name, value)| (name.to_owned(), value.to_owned()));
     assert_eq!(defined.collect::<Vec<_>>(), constants.collect::<Vec<_>>());
 }

@@ -44,7 +44,7 @@ fn a_c_program_settles_a_line() {
     assert_eq!(c_program("src/tests/line.c"), lines);
 }
 
-/// What both examples write, but for their refusals.
+/// What both examples of a lamp write, but for their refusals.
 const LAMP: &str = "\
 tick 0, fresh: block 0, repeater 0, lamp dark
 tick 0, switched on: block 15, repeater 0, lamp dark
@@ -54,15 +54,33 @@ tick 2, switched off: block 0, repeater 15, lamp lit
 tick 7, ticked: block 0, repeater 0, lamp dark
 ";
 
+/// What both examples of a bulb write, but for their refusals.
+const BULB: &str = "\
+tick 0, fresh: bulb dark, had none
+tick 0, pressed: bulb dark, had none
+tick 1, ticked: bulb lit, had power
+tick 1, released: bulb lit, had power
+tick 2, ticked: bulb lit, had none
+tick 2, pressed: bulb lit, had none
+tick 3, ticked: bulb dark, had power
+tick 3, released: bulb dark, had power
+tick 4, ticked: bulb dark, had none
+";
+
 #[test]
-fn the_example_in_c_runs() {
+fn the_examples_in_c_run() {
     assert_eq!(c_program("examples/lamp.c"), format!("{LAMP}tick 7, refused: refusal 4, row 2\n"));
+    let refusal = "tick 4, without the bulb's byte: refusal 4, row 0";
+    assert_eq!(c_program("examples/bulb.c"), format!("{BULB}{refusal}\n"));
 }
 
 #[test]
-fn the_example_in_rust_runs() {
+fn the_examples_in_rust_run() {
     let refusal = "refusal 5, misplaced: rows 0 and 1 are both at 0,1,0; each position may be there once";
     assert_eq!(rust_example("lamp"), format!("{LAMP}{refusal}\n"));
+    let refusal = "refusal 4, bad row: row 0 at 0,0,0: kind (byte 12) is 13; that is CopperBulb, and the profile has 13 \
+                   bytes: give it a fourteenth, the bulb's, as BENCH_PROFILE_WITH_BULB has";
+    assert_eq!(rust_example("bulb"), format!("{BULB}{refusal}\n"));
 }
 
 #[test]

@@ -4,8 +4,8 @@ use std::fmt::{Debug, Display};
 use std::str::FromStr;
 
 use crate::{
-    Arm, BENCH_PROFILE, Columns, FARTHEST, Facing, Fault, Kind, ROW_BYTES, Row, RowError, Shape, find, rows,
-    settle, table,
+    Arm, BENCH_PROFILE_WITH_BULB, Columns, FARTHEST, Facing, Fault, Kind, ROW_BYTES, Row, RowError, Shape,
+    find, rows, settle, table,
 };
 
 /// A row with every field.
@@ -35,7 +35,9 @@ fn a_row_packs_each_field() {
         [1, 2, 3, 0, 6, 1, 0, 0],
     ];
     assert_eq!(full().bytes(), bytes.as_flattened());
-    assert_eq!(Row::new(Kind::Piston, [0; 3]).bytes()[12..], [[12].as_slice(), &[0; 19]].concat());
+    for (kind, code) in [(Kind::Piston, 12), (Kind::CopperBulb, 13)] {
+        assert_eq!(Row::new(kind, [0; 3]).bytes()[12..], [[code].as_slice(), &[0; 19]].concat());
+    }
     assert_eq!(bare().with_powered(false).bytes()[14], 1);
 }
 
@@ -64,7 +66,7 @@ fn a_row_has_each_field_and_can_lose_it() {
 /// What the proved call thinks of a row.
 fn is_accepted(row: &[u8; ROW_BYTES]) -> bool {
     let columns = Columns { signal: &mut [0], weak: &mut [0], strong: &mut [0] };
-    match settle(&BENCH_PROFILE, row, &[0], 17, columns) {
+    match settle(&BENCH_PROFILE_WITH_BULB, row, &[0], 17, columns) {
         Ok(_) => true,
         Err(refusal) => {
             assert_eq!((refusal.number, refusal.row), (4, 0));
@@ -112,7 +114,8 @@ fn a_bad_field_says_what_it_may_be() {
     assert_eq!(
         message(12, 0),
         "kind (byte 12) is 0; it may be 1 Solid, 2 Transparent, 3 RedstoneWire, 4 RedstoneTorch, 5 Repeater, \
-         6 Comparator, 7 Lever, 8 Button, 9 PressurePlate, 10 RedstoneLamp, 11 RedstoneBlock or 12 Piston"
+         6 Comparator, 7 Lever, 8 Button, 9 PressurePlate, 10 RedstoneLamp, 11 RedstoneBlock, 12 Piston or \
+         13 CopperBulb"
     );
     assert_eq!(
         message(13, 7),

@@ -1,9 +1,12 @@
 //! What the documentation says of filling in a table.
 
-use crate::{BENCH_PROFILE, Circuit, Device, Facing, Kind, PROFILE_BYTES, Row, Shape, TORCH_CHARGES_ABOVE};
+use crate::{
+    BENCH_PROFILE_WITH_BULB, Circuit, Device, Facing, Kind, PROFILE_BYTES_WITH_BULB, Row, Shape,
+    TORCH_CHARGES_ABOVE,
+};
 
 fn circuit(rows: impl IntoIterator<Item = Row>) -> Circuit {
-    Circuit::new(&BENCH_PROFILE, rows).expect("an accepted table")
+    Circuit::new(&BENCH_PROFILE_WITH_BULB, rows).expect("an accepted table")
 }
 
 fn signal(circuit: &Circuit, position: [i32; 3]) -> u8 {
@@ -69,6 +72,10 @@ fn fresh_devices_start_as_their_rows_say() {
         device(comparator.with_powered(false).with_power_level(200)),
         Device::Comparator { level: 200 }
     );
+    let bulb = |lit| Device::Bulb { lit, had_power: false };
+    assert_eq!(device(of(Kind::CopperBulb)), bulb(false));
+    assert_eq!(device(of(Kind::CopperBulb).with_powered(false)), bulb(false));
+    assert_eq!(device(of(Kind::CopperBulb).with_powered(true)), bulb(true));
 }
 
 /// The fresh figures are an instant, not the state of rest.
@@ -126,8 +133,8 @@ fn strong_power_alone_drives_dust() {
 }
 
 /// The bench profile with these values for the torch.
-fn with_torch(values: u8) -> [u8; PROFILE_BYTES] {
-    let mut profile = BENCH_PROFILE;
+fn with_torch(values: u8) -> [u8; PROFILE_BYTES_WITH_BULB] {
+    let mut profile = BENCH_PROFILE_WITH_BULB;
     profile[usize::from(Kind::RedstoneTorch.code())] = values;
     profile
 }

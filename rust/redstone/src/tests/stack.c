@@ -9,7 +9,7 @@
 
 enum { ROWS = REDSTONE_MOST_ROWS, STACK = 256 * 1024, PAINT = 0xa5 };
 
-static const uint8_t profile[REDSTONE_PROFILE_BYTES] = REDSTONE_BENCH_PROFILE;
+static const uint8_t profile[REDSTONE_PROFILE_BYTES_WITH_BULB] = REDSTONE_BENCH_PROFILE_WITH_BULB;
 static uint8_t table[ROWS * REDSTONE_ROW_BYTES];
 static uint8_t devices[ROWS];
 static uint8_t state[ROWS * REDSTONE_STATE_BYTES];
@@ -25,7 +25,7 @@ static void fill(void) {
         uint8_t *bytes = table + REDSTONE_ROW_BYTES * row;
         bytes[4] = (uint8_t)(row / 64);
         bytes[8] = (uint8_t)(row % 64);
-        bytes[12] = (uint8_t)(row / 64 % 2 == 0 ? REDSTONE_KIND_SOLID : 1 + row % 12);
+        bytes[12] = (uint8_t)(row / 64 % 2 == 0 ? REDSTONE_KIND_SOLID : 1 + row % 13);
         bytes[13] = REDSTONE_FACING_SOUTH;
         bytes[14] = 2;
         bytes[19] = 1;

@@ -1,6 +1,7 @@
 mod calls;
 mod inner;
 mod record;
+mod refused;
 mod wire;
 
 use std::collections::BTreeMap;
@@ -19,6 +20,7 @@ pub fn write(seed: u64) -> io::Result<()> {
     let mut records = inner::records(seed, random);
     records.extend(wire::records(seed));
     records.extend(calls::records(seed, random));
+    records.extend(refused::records());
     let mut counts = BTreeMap::<u8, usize>::new();
     let mut out = io::stdout().lock();
     for Record(bytes) in &records {

@@ -1,15 +1,15 @@
 //! Operations 10 to 13: settle, fresh, ticks and switch.
 
 use differential::compare::{Answer, Answers};
-use differential::devices::any_devices;
-use differential::generate::{BENCH_PROFILE, Case};
+use differential::devices::{any_devices, is_switch};
+use differential::generate::{BENCH_PROFILE, BENCH_PROFILE_WITH_BULB, Case};
 use differential::oracle::Oracle;
 use differential::random::Random;
 use differential::redstone::{
     Call, Input, OriginalRun, SIGNAL, STATE, STRONG, Step, TABLE, WEAK, fresh_devices,
 };
 use differential::table::{self, Position};
-use redstone::{Facing, Kind, Row};
+use redstone::{Facing, Kind, ROW_BYTES, Row, STATE_BYTES};
 
 use super::record::Record;
 use super::{MOST_ROWS, small_cases};
@@ -28,10 +28,13 @@ const CHARGING_TABLES: usize = 5;
 const CHARGING_RUNS: usize = 2;
 
 /// Each step of a run has its table and state with it, so these are small tables.
-const RUNS: usize = 8;
+const RUNS: usize = 6;
 const MOST_RUN_ROWS: usize = 12;
 /// So many of a run's calls at least change the state.
 const LEAST_CHANGES: usize = 3;
+/// Runs of tables with bulbs, in which so many calls at least change a light.
+const BULB_RUNS: usize = 2;
+const LEAST_LIGHTS: usize = 2;
 
 /// The least rows of the tables of the short runs.
 const SHORT_RUNS: [usize; 2] = [20, 40];
@@ -40,17 +43,20 @@ pub fn records(seed: u64, random: &mut Random) -> Vec<Record> {
     let [short_line, long_line] = [2, 15].map(|dust| Case::line("line", dust));
     let mut records = Vec::new();
     let [with_value, without_value] = [true, false].map(|charges| charged().with_torch_charging(charges));
-    for case in [&short_line, &long_line, &with_value, &without_value] {
+    for case in [&short_line, &long_line, &with_value, &without_value, &bulbs()] {
         records.extend(settles(random, case, LIMITS.len() + 2));
     }
     for case in slow_cases(seed).take(SETTLED_TABLES).chain(charging_cases(seed).take(CHARGING_TABLES)) {
         records.extend(settles(random, &case, LIMITS_KEPT));
     }
     let charging_runs = charging_cases(seed).take(CHARGING_RUNS);
-    for case in [short_line, lamp(), with_value].into_iter().chain(charging_runs) {
+    for case in [short_line, lamp(), with_value, bulbs(), blinking()].into_iter().chain(charging_runs) {
         records.extend(run(&case, &steps(random, &case)).records);
     }
-    records.extend(lively_runs(seed, random).take(RUNS).flatten());
+    let lively = |run: &Run| run.changes >= LEAST_CHANGES;
+    records.extend(switched_runs(seed, random).filter(lively).take(RUNS).flat_map(|run| run.records));
+    let lighted = |run: &Run| run.lights >= LEAST_LIGHTS;
+    records.extend(switched_runs(seed, random).filter(lighted).take(BULB_RUNS).flat_map(|run| run.records));
     records.extend(run(&long_line, &[Step::Fresh, Step::Ticks(1)]).records);
     for least_rows in SHORT_RUNS {
         let mut cases = small_cases(seed, MOST_ROWS).filter(|case| case.rows() >= least_rows);
@@ -72,9 +78,8 @@ fn settles(random: &mut Random, case: &Case, kept: usize) -> Vec<Record> {
         let mut limits = [&LIMITS[..], &[rounds, rounds - 1]].concat();
         random.keep(&mut limits, kept);
         for limit in limits {
-            let answer = settle(limit);
-            let record = Record::new(10).slice(&case.profile).slice(&case.table).slice(&devices);
-            records.push(columns(record, &answer).number(limit).number(number(&answer)));
+            let input = Input::Settle { devices: devices.clone(), limit };
+            records.push(record(case, &input, &settle(limit)));
         }
     }
     records
@@ -85,40 +90,62 @@ fn settle(oracle: &Oracle, devices: &[u8], limit: u32) -> Answer {
     oracle.answer(&Call { input, columns: [oracle.rows.len(); 3] })
 }
 
-/// A run, and how many of its calls with ticks changed the state.
+/// What a call on a case was asked and answered.
+pub fn record(case: &Case, input: &Input, answer: &Answer) -> Record {
+    let [table, state] = [TABLE, STATE].map(|buffer| answer.bytes(buffer));
+    let with = |operation| Record::new(operation).slice(&case.profile).slice(&case.table);
+    let record = match input {
+        Input::Settle { devices, limit } => columns(with(10).slice(devices), answer).number(*limit),
+        Input::Fresh { .. } => columns(with(11).slice(&state), answer),
+        Input::Tick { state: before, tick, ticks } => {
+            columns(with(12).slice(before).slice(&state), answer).number(*tick).number(*ticks)
+        }
+        Input::Switch { at, powered, .. } => {
+            let record = columns(with(13).slice(&table).slice(&state), answer);
+            record.position(*at).number((*powered).into())
+        }
+    };
+    record.number(number(answer))
+}
+
+/// A run, and how many of its calls with ticks changed the state, and the light of a bulb.
 struct Run {
     records: Vec<Record>,
     changes: usize,
+    lights: usize,
 }
 
 /// The steps of a run, each from the table and state that the one before left.
 fn run(case: &Case, steps: &[Step]) -> Run {
     let oracle = Oracle::new(case);
     let original = OriginalRun::new(&oracle);
-    let (mut table, mut state, mut tick) = (case.table.clone(), Vec::new(), 0);
-    let mut run = Run { records: Vec::new(), changes: 0 };
+    let (mut now, mut state, mut tick) = (case.clone(), Vec::new(), 0);
+    let mut run = Run { records: Vec::new(), changes: 0, lights: 0 };
     for step in steps {
         let answer = original.answer(step);
-        let next = [answer.bytes(TABLE), answer.bytes(STATE)];
-        let with = |operation| Record::new(operation).slice(&case.profile).slice(&table);
-        let record = match *step {
-            Step::Fresh => columns(with(11).slice(&next[1]), &answer),
+        let next = answer.bytes(STATE);
+        let input = match *step {
+            Step::Fresh => Input::Fresh { state_bytes: next.len() },
             Step::Ticks(ticks) => {
-                let record = columns(with(12).slice(&state).slice(&next[1]), &answer);
-                let record = record.number(tick).number(ticks);
-                tick += ticks;
-                run.changes += usize::from(state != next[1]);
-                record
+                run.changes += usize::from(state != next);
+                run.lights += usize::from(lights(&now, &state) != lights(&now, &next));
+                Input::Tick { state, tick, ticks }
             }
-            Step::Switch { at, powered } => {
-                let record = columns(with(13).slice(&next[0]).slice(&state), &answer);
-                record.position(at).number(powered.into())
-            }
+            Step::Switch { at, powered } => Input::Switch { state, at, powered },
         };
-        run.records.push(record.number(number(&answer)));
-        [table, state] = next;
+        run.records.push(record(&now, &input, &answer));
+        if let Step::Ticks(ticks) = step {
+            tick += ticks;
+        }
+        (now.table, state) = (answer.bytes(TABLE), next);
     }
     run
+}
+
+/// The lights of the bulbs.
+fn lights(case: &Case, state: &[u8]) -> Vec<u8> {
+    let rows = case.table.chunks_exact(ROW_BYTES).zip(state.chunks_exact(STATE_BYTES));
+    rows.filter(|(row, _)| row[12] == Kind::CopperBulb.code()).map(|(_, state)| state[2]).collect()
 }
 
 /// The signal, weak and strong columns.
@@ -150,10 +177,6 @@ fn steps(random: &mut Random, case: &Case) -> Vec<Step> {
 fn short_steps(random: &mut Random, case: &Case) -> Vec<Step> {
     let (at, powered) = (switch_position(random, case), random.percent(50));
     vec![Step::Fresh, Step::Switch { at, powered }, Step::Ticks(5)]
-}
-
-fn is_switch(row: &Row) -> bool {
-    matches!(row.kind(), Kind::Lever | Kind::Button | Kind::PressurePlate)
 }
 
 /// The position of a switch if there is one, else of any row.
@@ -194,12 +217,10 @@ fn charging_cases(seed: u64) -> impl Iterator<Item = Case> {
         .filter(move |case| strong(case) != strong(&case.with_torch_charging(false)))
 }
 
-/// Runs of small tables with a switch, in which most calls with ticks change the state.
-fn lively_runs(seed: u64, random: &mut Random) -> impl Iterator<Item = Vec<Record>> {
+/// Runs of small tables with a switch.
+fn switched_runs(seed: u64, random: &mut Random) -> impl Iterator<Item = Run> {
     let switched = |case: &Case| table::rows(&case.table).iter().any(is_switch);
-    let runs =
-        small_cases(seed, MOST_RUN_ROWS).filter(switched).map(|case| run(&case, &steps(random, &case)));
-    runs.filter(|run| run.changes >= LEAST_CHANGES).map(|run| run.records)
+    small_cases(seed, MOST_RUN_ROWS).filter(switched).map(|case| run(&case, &steps(random, &case)))
 }
 
 /// A lever puts out a torch, and so takes the charge from the block over it, which dust, a lamp, a repeater and another
@@ -222,4 +243,30 @@ fn charged() -> Case {
 fn lamp() -> Case {
     let lever = Row::new(Kind::Lever, [0, 1, 0]).with_powered(true).with_support([0, -1, 0]);
     Case::new("lamp", BENCH_PROFILE, [Row::new(Kind::RedstoneLamp, [0, 0, 0]), lever])
+}
+
+/// A lever on a bulb, beside it a bulb that is lit and a lamp, and a torch on it.
+fn bulbs() -> Case {
+    let rows = [
+        Row::new(Kind::CopperBulb, [0, 0, 0]),
+        Row::new(Kind::Lever, [0, 1, 0]).with_support([0, -1, 0]),
+        Row::new(Kind::CopperBulb, [1, 0, 0]).with_powered(true),
+        Row::new(Kind::RedstoneLamp, [0, 0, 1]),
+        Row::new(Kind::RedstoneTorch, [-1, 0, 0]).with_support([1, 0, 0]),
+    ];
+    Case::new("bulbs", BENCH_PROFILE_WITH_BULB, rows)
+}
+
+/// A torch that its own dust puts out, and a bulb under that dust.
+fn blinking() -> Case {
+    let rows = [
+        Row::new(Kind::Solid, [0, 0, 0]),
+        Row::new(Kind::Solid, [0, 0, 1]),
+        Row::new(Kind::RedstoneWire, [0, 1, 0]),
+        Row::new(Kind::RedstoneWire, [0, 1, 1]),
+        Row::new(Kind::CopperBulb, [1, -1, 1]),
+        Row::new(Kind::RedstoneTorch, [1, 0, 0]).with_support([-1, 0, 0]),
+        Row::new(Kind::RedstoneWire, [1, 0, 1]),
+    ];
+    Case::new("blinking", BENCH_PROFILE_WITH_BULB, rows)
 }

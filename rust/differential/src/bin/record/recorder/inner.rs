@@ -1,7 +1,7 @@
 //! Operations 1 to 6: traits, names, look-ups, supports, properties and positions.
 
 use differential::compare::{Answer, Answers};
-use differential::generate::{BENCH_PROFILE, Case, TORCH};
+use differential::generate::{BENCH_PROFILE, BENCH_PROFILE_WITH_BULB, Case, TORCH};
 use differential::oracle::Oracle;
 use differential::random::Random;
 use differential::table::{self, Position};
@@ -59,16 +59,18 @@ fn look_up(case: &Case, at: Position) -> Record {
     Record::new(3).slice(&case.table).position(at).bytes(&row.to_le_bytes()).bytes(&[kind])
 }
 
-fn support_issues(case: &Case) -> Record {
+/// A refusal lists no rows.
+pub fn support_issues(case: &Case) -> Record {
     let answer = ask(case, WorldQuery::SupportIssues { entries: case.rows() });
-    let count = u32::try_from(answer.number).expect("an answer of the layout's width");
+    let number = u32::try_from(answer.number).expect("an answer of the layout's width");
+    let count = if answer.refusal().is_some() { 0 } else { number };
     let rows = &answer.buffers[0].entries[..count as usize];
     let list: Vec<_> = rows.iter().flat_map(|row| row.to_le_bytes()).collect();
-    Record::new(4).slice(&case.profile).slice(&case.table).slice(&list).bytes(&count.to_le_bytes())
+    Record::new(4).slice(&case.profile).slice(&case.table).slice(&list).number(number)
 }
 
 fn properties(case: &Case) -> Record {
-    let numbers: Vec<u8> = (0..13).map(|kind| number(case, WorldQuery::Properties(kind))).collect();
+    let numbers: Vec<u8> = (0..14).map(|kind| number(case, WorldQuery::Properties(kind))).collect();
     Record::new(5).slice(&case.profile).bytes(&numbers)
 }
 
@@ -78,7 +80,7 @@ fn offset(from: Position, by: Position) -> Record {
 }
 
 /// Blocks side by side.
-fn blocks(sort: &'static str, profile: [u8; 13], blocks: impl Iterator<Item = (Kind, Shape)>) -> Case {
+fn blocks(sort: &'static str, profile: [u8; 14], blocks: impl Iterator<Item = (Kind, Shape)>) -> Case {
     let row = |(x, (kind, shape))| Row::new(kind, [x, 0, 0]).with_shape(shape);
     Case::new(sort, profile, (0..).zip(blocks).map(row))
 }
@@ -87,11 +89,12 @@ fn no_rows() -> Case {
     Case::new("no rows", BENCH_PROFILE, [])
 }
 
-/// Every kind in every shape, under the bench profile: half of the kinds to a table.
+/// Every kind in every shape, under the bench profile with the bulb: half of the kinds to a table.
 fn every_block() -> impl Iterator<Item = Case> {
     let shapes = |kind: &'static Kind| Shape::ALL.iter().map(|shape| (*kind, *shape));
-    let half =
-        |kinds: &'static [Kind]| blocks("every kind and shape", BENCH_PROFILE, kinds.iter().flat_map(shapes));
+    let half = |kinds: &'static [Kind]| {
+        blocks("every kind and shape", BENCH_PROFILE_WITH_BULB, kinds.iter().flat_map(shapes))
+    };
     let (first, second) = Kind::ALL.split_at(Kind::ALL.len() / 2);
     [half(first), half(second)].into_iter()
 }
@@ -108,11 +111,11 @@ fn every_plain_block() -> Vec<Case> {
 }
 
 /// The profile with this byte for every kind but Air.
-fn all_kinds(byte: u8) -> [u8; 13] {
+fn all_kinds(byte: u8) -> [u8; 14] {
     std::array::from_fn(|kind| if kind == 0 { 0 } else { byte })
 }
 
-fn plain_blocks(profile: [u8; 13], kinds: &[Kind]) -> Case {
+fn plain_blocks(profile: [u8; 14], kinds: &[Kind]) -> Case {
     blocks("plain blocks", profile, kinds.iter().map(|kind| (*kind, Shape::Plain)))
 }
 

@@ -30,7 +30,8 @@ pub fn records(seed: u64) -> Vec<Record> {
     let mut records = first_of_each(PAIRS_OF_ARMS, ARMS_KEPT, cases().flat_map(|case| arms(&case)));
     records.extend(rises());
     records.extend(first_of_each(TRANSFERS, TRANSFERS_KEPT, cases().flat_map(|case| transfers(&case))));
-    records.extend(cases().filter_map(|case| redraw(&case)).take(REDRAWN_TABLES));
+    let redrawn = |case: &Case| ask(case, &WireQuery::Redraw).bytes(0) != case.table;
+    records.extend(cases().filter(redrawn).take(REDRAWN_TABLES).map(|case| redraw(&case)));
     records
 }
 
@@ -83,13 +84,11 @@ fn transfer(case: &Case, source: Position, sink: Position) -> (u8, Record) {
     (number, record.position(source).position(sink).bytes(&[number]))
 }
 
-/// The redrawn table, if it is another than before.
-fn redraw(case: &Case) -> Option<Record> {
+/// The redrawn table.
+pub fn redraw(case: &Case) -> Record {
     let answer = ask(case, &WireQuery::Redraw);
-    let redrawn = answer.bytes(0);
     let code = u32::try_from(answer.number).expect("an answer of the layout's width");
-    let record = Record::new(9).slice(&case.profile).slice(&case.table).slice(&redrawn).number(code);
-    (redrawn != case.table).then_some(record)
+    Record::new(9).slice(&case.profile).slice(&case.table).slice(&answer.bytes(0)).number(code)
 }
 
 fn dusts(case: &Case) -> Vec<Position> {
