@@ -1,5 +1,5 @@
 .PHONY: run month test
-# The input of `make run`: 13 bytes of profile, then the table.
+# The input of `make run`: a profile of 13 or 14 bytes, then the table.
 TABLE ?= crates/settle/stdin
 # The hall whose ticks `make run` shows after that: a sample, unless there is a TABLE of one's own.
 HALL ?= $(if $(filter file,$(origin TABLE)),halls/repeater-lock.hall)
