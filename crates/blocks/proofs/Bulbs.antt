@@ -5,8 +5,8 @@ use mathlib.Core.List.{[], _∷_, _++_}
 use Prim.Native.Nat.{ℕ, _≤_}
 use native.Mathlib.Decide.{decLt}
 use native.Mathlib.Omega.{arith}
-use lib.ListN.{length, getD, length-append, List·getD-append, List·getD-eq-default}
-use lib.Seq.{getD-append-add}
+use lib.ListN.{length, getD, take, length-append, List·getD-append, List·getD-eq-default}
+use lib.Seq.{getD-append-add, length-take-le, take-length, take-suc}
 use Rattle.columns.specs.Column.{Bytes}
 use Rattle.blocks.specs.Kind.{RedstoneTorch, CopperBulb}
 use Rattle.blocks.specs.Profile.{says, torchChargesAbove, propertiesOf}
@@ -38,3 +38,10 @@ module _ (p : Bytes) (b : ℕ) (h : length p ≡ 13) where
   pub torch-charges-alike : torchChargesAbove (withBulb p b) ≡ torchChargesAbove p
   unfolding says
   torch-charges-alike = rw (kind-byte RedstoneTorch (λ e. omega arith)) refl
+
+-- Every profile of 14 bytes is one of 13 with a fourteenth.
+pub parted : (q : Bytes) → length q ≡ 14 → q ≡ withBulb (take 13 q) (getD q CopperBulb 0)
+parted q h = sym (rw h at (take-length q)) ∙ take-suc q 13 0 (omega arith)
+
+pub length-first-13 : (q : Bytes) → length q ≡ 14 → length (take 13 q) ≡ 13
+length-first-13 q h = length-take-le 13 q (omega arith)

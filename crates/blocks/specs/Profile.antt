@@ -3,7 +3,7 @@
 -- "may have 14 bytes", the last of them the bulb's.
 -- Assumes nothing.
 use mathlib.Core.Bool.{Bool}
-use mathlib.Core.List.{[], _∷_, _++_}
+use mathlib.Core.List.{[], _∷_}
 use Prim.Native.Nat.{ℕ, _/_, _%_}
 use lib.ListN.{getD}
 use lib.Dec.{eqb}
@@ -48,7 +48,3 @@ propertiesOf profile kind =
 -- "The bench profile is ours: Solid and RedstoneLamp 31, Transparent and RedstoneBlock 1, the rest 0"
 abbrev pub benchProfile : Bytes
 benchProfile = 0 ∷ 31 ∷ 1 ∷ 0 ∷ 0 ∷ 0 ∷ 0 ∷ 0 ∷ 0 ∷ 0 ∷ 31 ∷ 1 ∷ 0 ∷ []
-
--- and with a byte for the bulb: it supports components and receives weak and strong power, and gives none on
-abbrev pub benchProfileWithBulb : Bytes
-benchProfileWithBulb = benchProfile ++ 7 ∷ []

@@ -4,6 +4,11 @@ pub mod kind;
 ghost use mathlib.Core.Path.{_≡_};
 ghost use Rattle.blocks.specs.Profile.{propertiesOf, torchChargesAbove};
 
+// How many bytes a profile has: one for each kind but the bulb, or for the bulb, too.
+pub const PROFILE_BYTES: usize = 13;
+
+pub const PROFILE_BYTES_WITH_BULB: usize = 14;
+
 pub struct BlockProperties {
     pub supports_components: bool,
     pub receives_weak_power: bool,

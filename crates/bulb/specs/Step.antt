@@ -15,12 +15,12 @@ abbrev pub flipped : ℕ → ℕ
 flipped light = number (eqb light 0)
 
 -- "the light flips exactly if power is there and byte 9 is 0"
-unfoldable pub nextLight : Bool → ℕ → ℕ → ℕ
-nextLight power hadPower light = cond (power && eqb hadPower 0) (flipped light) light
+unfoldable pub nextBulbLight : Bool → ℕ → ℕ → ℕ
+nextBulbLight power hadPower light = cond (power && eqb hadPower 0) (flipped light) light
 
 -- row i's sixteen bytes r once its bulb is set, from the new settled power: the light, "then byte 9 is written"
 unfoldable pub bulbRow : Bytes → Column → Column → ℕ → Bytes → Bytes
 bulbRow t weak strong i r =
     cond (eqb (kindOf t i) CopperBulb)
-    (set (set r 2 (nextLight (hasPower weak strong i) (hadPowerOf r) (litOf r))) 9 (number (hasPower weak strong i)))
+    (set (set r 2 (nextBulbLight (hasPower weak strong i) (hadPowerOf r) (litOf r))) 9 (number (hasPower weak strong i)))
     r

@@ -8,40 +8,48 @@ use lib.ListN.{set, take, replicate}
 use lib.Dec.{T}
 use lib.IntN.{pos, negsuc}
 use Rattle.columns.specs.Column.{Bytes, Column, tabulate}
-use Rattle.blocks.specs.Kind.{Solid, RedstoneTorch, Repeater, Lever, RedstoneLamp, RedstoneBlock, CopperBulb}
-use Rattle.blocks.specs.Profile.{benchProfile, benchProfileWithBulb}
-use Rattle.places.specs.Places.{cell}
+use Rattle.columns.specs.Ascii.{ascii}
+use Rattle.blocks.specs.Kind.{Solid, RedstoneWire, RedstoneTorch, Repeater, Lever, RedstoneLamp, RedstoneBlock, CopperBulb}
+use Rattle.blocks.specs.Profile.{benchProfile}
+use Rattle.blocks.proofs.Bulbs.{withBulb}
+use Rattle.places.specs.Places.{East, cell}
 use Rattle.refusals.specs.declared.Checked.the-variants.{Refused}
 use Rattle.refusals.specs.Check.{answerOf, checkInput}
 use Rattle.refusals.proofs.Bulbs.{bulb-refused}
 use Rattle.states.specs.Row.{litOf, hadPowerOf}
 use Rattle.updates.specs.State.{sixteen, checkState, freshState}
-use Rattle.updates.specs.Tick.{tick}
+use Rattle.updates.specs.Tick.{tick, ticks}
 use Rattle.switching.specs.Switch.{switched}
+use Rattle.report.specs.Text.{settleText}
 use Rattle.cases.proofs.Computing.{computing}
-use Rattle.cases.proofs.Build.{block, powered, support}
+use Rattle.cases.proofs.Build.{block, facing, powered, support}
 use Rattle.cases.proofs.Cases.{Case, passes}
 
 -- the bench profile with the byte b for the bulb
 with : ℕ → Bytes
-with b = benchProfile ++ b ∷ []
+with b = withBulb benchProfile b
+
+-- that of the cases: the bulb supports components and receives weak and strong power; no repeater reads it, and it drives no dust
+benchWithBulb : Bytes
+unfolding with
+benchWithBulb = with 7
 
 bulb : Bytes
 bulb = block CopperBulb 0 0 0
 
 -- powered false
-unlit : Bytes → Bytes
-unlit r = set r 14 1
+unpowered : Bytes → Bytes
+unpowered r = set r 14 1
 
 -- light and byte 9 of row i
-lightOf : Bytes → ℕ → Column
+lightAndByte9 : Bytes → ℕ → Column
 unfolding computing
-lightOf st i = litOf (sixteen st i) ∷ hadPowerOf (sixteen st i) ∷ []
+lightAndByte9 st i = litOf (sixteen st i) ∷ hadPowerOf (sixteen st i) ∷ []
 
 -- light and byte 9 of a fresh bulb, by itself and under a redstone block
 freshBulb : Bytes → Column
-unfolding computing lightOf
-freshBulb r = lightOf (freshState benchProfileWithBulb r) 0 ++ lightOf (freshState benchProfileWithBulb (r ++ block RedstoneBlock 0 1 0)) 0
+unfolding computing benchWithBulb lightAndByte9
+freshBulb r = lightAndByte9 (freshState benchWithBulb r) 0 ++ lightAndByte9 (freshState benchWithBulb (r ++ block RedstoneBlock 0 1 0)) 0
 
 -- a bulb with a lever on it
 switchable : Bytes
@@ -60,15 +68,38 @@ played p (power ∷ rest) t st = played p rest (thrown t power) (tick p (thrown 
 
 -- light and byte 9 of the bulb then, by the bulb's byte
 playedBy : ℕ → List ℕ → Column
-unfolding computing with switchable played lightOf
-playedBy b powers = lightOf (played (with b) powers switchable (freshState (with b) switchable)) 0
+unfolding computing with switchable played lightAndByte9
+playedBy b powers = lightAndByte9 (played (with b) powers switchable (freshState (with b) switchable)) 0
 
 -- the lever on and off again before the tick
 pulsed : Column
-unfolding computing switchable thrown lightOf
+unfolding computing benchWithBulb switchable thrown lightAndByte9
 pulsed =
     let t = thrown (thrown switchable 1) 0 in
-    lightOf (tick benchProfileWithBulb t (freshState benchProfileWithBulb switchable)) 0
+    lightAndByte9 (tick benchWithBulb t (freshState benchWithBulb switchable)) 0
+
+-- light and byte 9 of row i after n ticks
+after : Bytes → ℕ → Bytes → ℕ → Column
+unfolding computing lightAndByte9
+after p n t i = lightAndByte9 (ticks n p t (freshState p t)) i
+
+-- a torch beside dust on a bulb: the dust gives the bulb weak power alone
+underDust : Bytes
+unfolding bulb
+underDust = bulb ++ block RedstoneWire 0 1 0 ++ block RedstoneTorch 0 1 1
+
+-- a lever on a Solid that a repeater of delay 1 reads, and a bulb that it outputs into: the repeater comes on in the first tick
+behindRepeater : Bytes
+behindRepeater =
+    block Solid 0 0 0 ++ powered (support (pos 0) (negsuc 0) (pos 0) (block Lever 0 1 0)) ++ facing East (block Repeater 1 0 0) ++ block CopperBulb 2 0 0
+
+-- the bulb's own position switched on, between two ticks
+selfSwitched : Column
+unfolding computing benchWithBulb bulb lightAndByte9
+selfSwitched =
+    let p = benchWithBulb in
+    let t = switched bulb (cell (pos 0) (pos 0) (pos 0)) 1 in
+    lightAndByte9 (tick p t (freshState p bulb)) 0 ++ lightAndByte9 (freshState p t) 0
 
 -- what a profile and these rows are answered: 0, or the refusal
 answered : Bytes → Bytes → ℕ
@@ -76,13 +107,13 @@ unfolding computing
 answered p t = answerOf (checkInput p t) 0
 
 -- what a state of one row is answered
-stateOf : Bytes → Bytes → ℕ
+answeredState : Bytes → Bytes → ℕ
 unfolding computing
-stateOf t st = answerOf (checkState t st) 0
+answeredState t st = answerOf (checkState t st) 0
 
--- sixteen bytes of which byte k is b
-byte : ℕ → ℕ → Bytes
-byte k b = set (replicate 16 0) k b
+-- sixteen bytes, 0 but for byte k, which is b
+onlyByte : ℕ → ℕ → Bytes
+onlyByte k b = set (replicate 16 0) k b
 
 number1 : ℕ
 number1 = 65536
@@ -98,11 +129,11 @@ number6 : ℕ
 number6 = 6 * 65536
 
 cases : List Case
-unfolding with bulb unlit freshBulb switchable playedBy pulsed answered stateOf byte number1 number4 number5 number6
+unfolding with benchWithBulb bulb unpowered freshBulb switchable playedBy pulsed after underDust behindRepeater selfSwitched answered answeredState onlyByte number1 number4 number5 number6
 cases =
     -- fresh, by itself and under a redstone block: powered missing, false and true
     record { given = freshBulb bulb; wanted = 0 ∷ 0 ∷ 0 ∷ 1 ∷ [] }
-    ∷ record { given = freshBulb (unlit bulb); wanted = 0 ∷ 0 ∷ 0 ∷ 1 ∷ [] }
+    ∷ record { given = freshBulb (unpowered bulb); wanted = 0 ∷ 0 ∷ 0 ∷ 1 ∷ [] }
     ∷ record { given = freshBulb (powered bulb); wanted = 1 ∷ 0 ∷ 1 ∷ 1 ∷ [] }
     -- power arrives; is held; goes; comes again; is held
     ∷ record { given = playedBy 7 (1 ∷ []); wanted = 1 ∷ 1 ∷ [] }
@@ -115,11 +146,23 @@ cases =
     ∷ record { given = pulsed; wanted = 0 ∷ 0 ∷ [] }
     -- a lever gives strong power: a bulb that receives it alone, weak power alone, neither
     ∷ record { given = playedBy 4 (1 ∷ []) ++ playedBy 2 (1 ∷ []) ++ playedBy 25 (1 ∷ []); wanted = 1 ∷ 1 ∷ 0 ∷ 0 ∷ 0 ∷ 0 ∷ [] }
-    -- "with 13 a bulb row is number 4"; a row of kind 14 is with 14, too
+    -- dust gives weak power: a bulb that receives it alone, strong power alone
+    ∷ record { given = after (with 2) 0 underDust 0 ++ after (with 4) 0 underDust 0; wanted = 0 ∷ 1 ∷ 0 ∷ 0 ∷ [] }
+    -- a repeater's power arrives in the tick in which the repeater comes on: no tick, one, two, three
+    ∷ record {
+      given = after benchWithBulb 0 behindRepeater 3 ++ after benchWithBulb 1 behindRepeater 3 ++ after benchWithBulb 2 behindRepeater 3 ++ after benchWithBulb 3 behindRepeater 3;
+      wanted = 0 ∷ 0 ∷ 1 ∷ 1 ∷ 1 ∷ 1 ∷ 1 ∷ 1 ∷ [];
+    }
+    -- the bulb itself switched on: no light, but in a fresh state
+    ∷ record { given = selfSwitched; wanted = 0 ∷ 0 ∷ 1 ∷ 0 ∷ [] }
+    -- the program's text for a bulb with 14 bytes, and with 13
+    ∷ record { given = settleText (benchWithBulb ++ bulb); wanted = ascii "blocks=1\nrounds=2\nrow=0,0,0,0,0,0\n" }
+    ∷ record { given = settleText (benchProfile ++ bulb); wanted = ascii "refusal=4\nplace=0\n" }
+    -- "with 13 a bulb row is number 4"; with 14 a row of kind 14 is, and the same position twice is number 5
     ∷ record {
       given =
-          answered benchProfile bulb ∷ answered benchProfile (block Solid 0 0 0 ++ block CopperBulb 0 1 0) ∷ answered benchProfileWithBulb bulb
-          ∷ answered benchProfileWithBulb (block 14 0 0 0) ∷ answered benchProfileWithBulb (bulb ++ bulb) ∷ [];
+          answered benchProfile bulb ∷ answered benchProfile (block Solid 0 0 0 ++ block CopperBulb 0 1 0) ∷ answered benchWithBulb bulb
+          ∷ answered benchWithBulb (block 14 0 0 0) ∷ answered benchWithBulb (bulb ++ bulb) ∷ [];
       wanted = number4 0 ∷ number4 1 ∷ 0 ∷ number4 0 ∷ number5 1 ∷ [];
     }
     -- profiles of 0 to 16 bytes
@@ -131,15 +174,15 @@ cases =
     ∷ record { given = answered (with 0) [] ∷ answered (with 31) [] ∷ answered (with 32) [] ∷ answered (with 63) [] ∷ []; wanted = 0 ∷ 0 ∷ number1 ∷ number1 ∷ [] }
     -- a bulb's state: each byte at 1, and bytes 2 and 9 at 2
     ∷ record {
-      given = tabulate 16 (λ k. stateOf bulb (byte k 1));
+      given = tabulate 16 (λ k. answeredState bulb (onlyByte k 1));
       wanted = number6 ∷ number6 ∷ 0 ∷ replicate 6 number6 ++ 0 ∷ replicate 6 number6;
     }
-    ∷ record { given = stateOf bulb (byte 2 2) ∷ stateOf bulb (byte 9 2) ∷ []; wanted = number6 ∷ number6 ∷ [] }
+    ∷ record { given = answeredState bulb (onlyByte 2 2) ∷ answeredState bulb (onlyByte 9 2) ∷ []; wanted = number6 ∷ number6 ∷ [] }
     -- byte 9 of other kinds
     ∷ record {
       given =
-          stateOf (block RedstoneLamp 0 0 0) (byte 9 1) ∷ stateOf (block RedstoneTorch 0 0 0) (byte 9 1) ∷ stateOf (block Repeater 0 0 0) (byte 9 1)
-          ∷ stateOf (block Solid 0 0 0) (byte 9 1) ∷ [];
+          answeredState (block RedstoneLamp 0 0 0) (onlyByte 9 1) ∷ answeredState (block RedstoneTorch 0 0 0) (onlyByte 9 1) ∷ answeredState (block Repeater 0 0 0) (onlyByte 9 1)
+          ∷ answeredState (block Solid 0 0 0) (onlyByte 9 1) ∷ [];
       wanted = number6 ∷ number6 ∷ number6 ∷ number6 ∷ [];
     }
     ∷ []

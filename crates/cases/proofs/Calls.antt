@@ -189,7 +189,7 @@ switchesFed = record { answer = refl; table = refl; state = refl; columns = reco
 
 switch-done : SettledTo benchProfile (switched fed (cell (pos 1) (pos 1) (pos 0)) 1) (devicesOf fed idle) none none none 2
     × (switchedFed ≡ switched fed (cell (pos 1) (pos 1) (pos 0)) 1)
-switch-done = switch-tells switchesFed .done (omega arith)
+switch-done = switch-tells switchesFed .done (omega arith) .0
 
 -- the dust and the comparators lack a support
 listedFed : Listed benchProfile fed old (0 ∷ 2 ∷ 3 ∷ 99 ∷ []) 3

@@ -26,7 +26,7 @@ use Rattle.repeater.specs.Step.{repeaterInputLevel, isRequested, locksFrom, isL
 use Rattle.torch.specs.Step.{torchSupportIsPowered, nextToggles, nextCandidate, torchRow}
 use Rattle.comparator.specs.Step.{compared, nextComparator}
 use Rattle.lamp.specs.Step.{nextLit, nextLeft, lampRow}
-use Rattle.bulb.specs.Step.{nextLight, bulbRow}
+use Rattle.bulb.specs.Step.{nextBulbLight, bulbRow}
 use Rattle.devices.specs.Step.{deviceRow, lightRow}
 use Rattle.updates.specs.State.{devicesOf, checkState, freshDevices, freshState}
 use Rattle.updates.specs.Tick.{withDevices, withLights, settledOf, setDevices, setLights, tick, ticks}
@@ -41,5 +41,5 @@ use Rattle.totals.specs.Month.{monthOf}
 use Rattle.month_lines.specs.Lines.{numberedLine, numberedLines, monthText, textOf, outputOf as monthOutput}
 
 unfoldable pub computing : ℕ
-unfolding tabulateFrom concatRowsFrom same firstFrom indicesFrom settling says signed32 signed8 clamp32 satAdd samePos before opposite step horizontalOffset beside adjacent posOf supportOf armEntry storedArm firstAtOrPast find kindAt plain ofShape traits traitsAt goodProfile goodPlace goodRow checkRows checkTable checkInput isSupported lacksSupport supportIssues checkSupports ahead outputOf inputOf across sidesOf connects componentConnects joins rises drops inferPast inferWireConnection armOf hasArm fitsHorizontal fitsRise fitsFall fits ruleAlong firstRule transferBy dustTransfer transmitsBy entryOf entriesOf withOpposite drawn redrawnRow updateWireShapes goodDevice checkDevices switchLevel emittedLevel emitted outputsTo isSupportOf isNextToRedstoneBlock isOverTorch emittedToStrong strongToWeak armTo alongArm touches feeds dustToWeakBy emittedToDustBy strongToDustBy networkOf roundsOf settled checkCall checkSettle devicesOf delayOf bitsSet isCandidate goodQueue goodLight goodTorch goodHadPower goodState checkState freshDevice freshDevices freshQueue freshLight freshHadPower freshRow freshState repeaterInputLevel isRequested locksFrom isLocked nextQueue repeaterRow torchSupportIsPowered nextToggles nextCandidate torchRow compared nextComparator deviceRow nextLit nextLeft lampRow nextLight bulbRow lightRow withDevices withLights settledOf setDevices setLights tick ticks checkFresh checkStep checkTick switched decimalWithin decimalOf signedText lineOf rowText settledText refusalText checkRun checkWhole runText settleText readWithin streamOf asStream countBelow sumOf figuresOf monthOf numberedLine numberedLines monthText textOf monthOutput
+unfolding tabulateFrom concatRowsFrom same firstFrom indicesFrom settling says signed32 signed8 clamp32 satAdd samePos before opposite step horizontalOffset beside adjacent posOf supportOf armEntry storedArm firstAtOrPast find kindAt plain ofShape traits traitsAt goodProfile goodPlace goodRow checkRows checkTable checkInput isSupported lacksSupport supportIssues checkSupports ahead outputOf inputOf across sidesOf connects componentConnects joins rises drops inferPast inferWireConnection armOf hasArm fitsHorizontal fitsRise fitsFall fits ruleAlong firstRule transferBy dustTransfer transmitsBy entryOf entriesOf withOpposite drawn redrawnRow updateWireShapes goodDevice checkDevices switchLevel emittedLevel emitted outputsTo isSupportOf isNextToRedstoneBlock isOverTorch emittedToStrong strongToWeak armTo alongArm touches feeds dustToWeakBy emittedToDustBy strongToDustBy networkOf roundsOf settled checkCall checkSettle devicesOf delayOf bitsSet isCandidate goodQueue goodLight goodTorch goodHadPower goodState checkState freshDevice freshDevices freshQueue freshLight freshHadPower freshRow freshState repeaterInputLevel isRequested locksFrom isLocked nextQueue repeaterRow torchSupportIsPowered nextToggles nextCandidate torchRow compared nextComparator deviceRow nextLit nextLeft lampRow nextBulbLight bulbRow lightRow withDevices withLights settledOf setDevices setLights tick ticks checkFresh checkStep checkTick switched decimalWithin decimalOf signedText lineOf rowText settledText refusalText checkRun checkWhole runText settleText readWithin streamOf asStream countBelow sumOf figuresOf monthOf numberedLine numberedLines monthText textOf monthOutput
 computing = 0

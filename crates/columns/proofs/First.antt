@@ -68,6 +68,13 @@ none-first f (suc n) i h =
     let now : f i ≡ false = h i (omega arith) (omega arith) in
     rw now (none-first f n (i + 1) (λ k a b. h k (omega arith) (omega arith)))
 
+-- two tests that answer alike find alike
+pub first-same : (f g : ℕ → Bool) (n i : ℕ) → ((k : ℕ) → i ≤ k → k < i + n → f k ≡ g k) → firstFrom f n i ≡ firstFrom g n i
+unfolding firstFrom
+first-same f g zero i h = refl
+first-same f g (suc n) i h =
+    rw (h i (omega arith) (omega arith), first-same f g n (i + 1) (λ k a b. h k (omega arith) (omega arith))) refl
+
 -- ---- a loop that scans: after i of n numbers the n - i others are left
 
 module _ (f : ℕ → Bool) (n i : ℕ) (h : i < n) where

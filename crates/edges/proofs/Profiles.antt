@@ -1,18 +1,18 @@
 -- What a table's network reads of a profile: the traits of the rows, and whether a torch charges the block above. Assumes nothing.
-use mathlib.Core.Path.{_≡_, refl, ap}
+use mathlib.Core.Path.{_≡_, refl}
 use mathlib.Core.Bool.{Bool}
 use Prim.Native.Nat.{ℕ}
 use Rattle.columns.specs.Column.{Bytes}
-use Rattle.columns.specs.First.{onFound}
 use Rattle.network.specs.Network.{Network}
 use Rattle.blocks.specs.Kind.{isDust}
-use Rattle.blocks.specs.Profile.{torchChargesAbove, propertiesOf}
+use Rattle.blocks.specs.Profile.{torchChargesAbove}
 use Rattle.places.specs.declared.Pos.{Pos}
-use Rattle.places.specs.Places.{North, East, South, West, beside, above, below}
+use Rattle.places.specs.Places.{North, East, South, West, beside, below}
 use Rattle.world.specs.Rows.{rows, posOf, kindOf}
-use Rattle.world.specs.Find.{find}
-use Rattle.traits.specs.Traits.{nothing, plain, traits, traitsAt, conducts}
-use Rattle.arms.specs.Arms.{rises, inferPast, inferWireConnection, armOf}
+use Rattle.traits.specs.Traits.{traits, traitsAt, conducts}
+use Rattle.traits.proofs.Profiles.{same-traits-at}
+use Rattle.arms.specs.Arms.{armOf}
+use Rattle.arms.proofs.Profiles.{same-arms-by}
 use Rattle.wire.specs.Transfer.{fitsRise, fitsFall, ruleAlong, firstRule, transferBy, transmitsBy}
 use Rattle.edges.specs.Edges.{emittedToStrong, strongToWeak, dustToWeakBy, emittedToDustBy, strongToDustBy, networkBy, networkOf}
 
@@ -31,33 +31,20 @@ withStrong N strong =
       strongToDust = N .strongToDust;
     }
 
--- ---- two profiles
+-- ---- two profiles by which every row has the same traits
 
--- a row has the same traits by two profiles that have the same properties for its kind
-pub same-traits : (q p t : Bytes) (i : ℕ) → propertiesOf q (kindOf t i) ≡ propertiesOf p (kindOf t i) → traits q t i ≡ traits p t i
-unfolding traits plain propertiesOf
-same-traits q p t i same =
-    rw (ap (λ r. r .«supports_components») same, ap (λ r. r .«receives_weak_power») same, ap (λ r. r .«receives_strong_power») same, ap (λ r. r .«strong_power_drives_dust») same)
-    refl
-
--- by which every row has the same traits
 module _ (q p t : Bytes) (same : (i : ℕ) → traits q t i ≡ traits p t i) where
-  traits-at : (c : Pos) → traitsAt q t c ≡ traitsAt p t c
-  unfolding traitsAt
-  traits-at c = λ x. onFound (λ i. same i x) nothing (find t c)
+  arms : armOf q t ≡ armOf p t
+  arms = same-arms-by q p t same
 
-  arm-of : (i f : ℕ) → armOf q t i f ≡ armOf p t i f
-  unfolding armOf inferWireConnection inferPast rises
-  arm-of i f = rw (traits-at (beside (posOf t i) f), traits-at (above (posOf t i))) refl
+  traits-at : (c : Pos) → traitsAt q t c ≡ traitsAt p t c
+  traits-at = same-traits-at q p t same
 
   transmits-by : (arm : ℕ → ℕ → ℕ) (j i : ℕ) → transmitsBy arm q t j i ≡ transmitsBy arm p t j i
   unfolding transmitsBy transferBy firstRule ruleAlong fitsRise fitsFall
   transmits-by arm j i =
       let side : (f : ℕ) → traitsAt q t (beside (posOf t j) f) ≡ traitsAt p t (beside (posOf t j) f) = λ f. traits-at (beside (posOf t j) f) in
       rw (side North, side East, side South, side West, traits-at (below (posOf t j))) refl
-
-  arms : armOf q t ≡ armOf p t
-  arms = λ x i f. arm-of i f x
 
   module _ (j i : ℕ) where
     strong-to-weak : strongToWeak q t j i ≡ strongToWeak p t j i

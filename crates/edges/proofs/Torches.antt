@@ -8,8 +8,9 @@ use Rattle.blocks.proofs.Values.{withoutValue, value-gone, same-properties}
 use Rattle.network.specs.Network.{Network}
 use Rattle.world.specs.Rows.{kindOf}
 use Rattle.traits.specs.Traits.{traits}
+use Rattle.traits.proofs.Profiles.{same-traits}
 use Rattle.edges.specs.Edges.{isSupportOf, outputsTo, isNextToRedstoneBlock, isOverTorch, emittedToStrong, networkBy, networkOf}
-use Rattle.edges.proofs.Profiles.{withStrong, same-traits, same-but-strong}
+use Rattle.edges.proofs.Profiles.{withStrong, same-but-strong}
 
 -- "Strong power: lever, button, plate reach their support, repeater and comparator their output, redstone block its six neighbours, where the
 -- target receives strong": document 01's sentence alone

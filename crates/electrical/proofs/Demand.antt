@@ -1,6 +1,6 @@
 -- Demand 3, over tables, in the order of its sentences, which stand in quotation marks. A theorem that asks for no accepted table and no valid
--- column holds of every table and every column. The profile p is taken as given, with value 32 of the torch's byte or without: nothing here asks
--- which. `Settles` is what the editor's call `redstone_settle` ensures of its buffers and its answer.
+-- column holds of every table and every column. The profile p is taken as given, with value 32 of the torch's byte or without, of 13 bytes or 14,
+-- and a table with bulbs or without: nothing here asks which. `Settles` is what the editor's call `redstone_settle` ensures of its buffers and its answer.
 -- Assumes nothing.
 use mathlib.Core.Path.{_≡_, refl}
 use mathlib.Core.Bool.{true, false}

@@ -16,7 +16,7 @@ use Rattle.states.specs.Row.{delayOf}
 -- from level, else 15 or 0 by powered"
 unfoldable pub freshDevice : Bytes → ℕ → ℕ
 freshDevice t i =
-    cond (eqb (kindOf t i) Repeater) (cond (isPowered t i) 1 0)
+    cond (eqb (kindOf t i) Repeater) (number (isPowered t i))
     (cond (eqb (kindOf t i) RedstoneTorch) (cond (eqb (poweredOf t i) 1) 0 1)
     (cond (eqb (kindOf t i) Comparator) (levelOr t i (cond (isPowered t i) maxSignal 0)) 0))
 

@@ -1,3 +1,4 @@
 -- Laws of good rows and good profiles.
 pub mod Fields
 pub mod Profiles
+pub mod Rows

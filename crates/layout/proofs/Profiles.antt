@@ -37,7 +37,7 @@ pub other-length : (p : Bytes) → ¬ (length p ≡ 13) → ¬ (length p ≡ 14)
 unfolding goodProfile
 other-length p m n = rw (ne-eqb (length p) 13 m, ne-eqb (length p) 14 n)
 
--- below 13 every byte has its most, and a byte past the end is 0
+-- with 13 bytes the fourteenth test passes, since a byte past the end is 0
 low-13 : (p : Bytes) → length p ≡ 13 → lowBytes p ≡ allBelow (λ k. leb (getD p k 0) (mostOf k)) 13
 low-13 p h = let none : getD p CopperBulb 0 ≡ 0 = List·getD-eq-default p 0 (omega arith) in rw (none, and-true) refl
 

@@ -20,7 +20,7 @@ mostOf kind = cond (eqb kind RedstoneTorch) 63 31
 abbrev pub goodLength : Bytes → Bool
 goodLength p = eqb (length p) 13 || eqb (length p) 14
 
--- none of at most 14 bytes is above the most of its kind
+-- none of the first 14 bytes is above the most of its kind; past the end a byte is 0
 abbrev pub lowBytes : Bytes → Bool
 lowBytes p = allBelow (λ k. leb (getD p k 0) (mostOf k)) 14
 

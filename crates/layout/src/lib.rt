@@ -1,4 +1,6 @@
 // A good profile, and a good row: each test of a row is one expression, with no branch.
+use blocks::PROFILE_BYTES;
+use blocks::PROFILE_BYTES_WITH_BULB;
 use blocks::kind;
 use columns::byte_at;
 use places::Pos;
@@ -24,12 +26,12 @@ fn most_of(kind: usize) -> u8
     }
 }
 
-// Whether none of at most 14 bytes is above the most of its kind.
+// Whether none of the first 14 bytes is above the most of its kind; past the end a byte is 0.
 fn low_bytes(profile: &[u8]) -> bool
     ensures { λ r. ⌜ r ≡ lowBytes (now (profile .entry)) ⌝ }
 {
     let mut k = 0;
-    while k < 14 {
+    while k < PROFILE_BYTES_WITH_BULB {
         if most_of(k) < byte_at(profile, k) {
             return false;
         }
@@ -42,7 +44,7 @@ fn low_bytes(profile: &[u8]) -> bool
 pub fn good_profile(profile: &[u8]) -> bool
     ensures { λ r. ⌜ r ≡ goodProfile (now (profile .entry)) ⌝ }
 {
-    ((profile.len() == 13) | (profile.len() == 14))
+    ((profile.len() == PROFILE_BYTES) | (profile.len() == PROFILE_BYTES_WITH_BULB))
         & ((byte_at(profile, 0) == 0) & low_bytes(profile))
 }
 
@@ -62,7 +64,7 @@ fn good_kind(table: &[u8], row: usize) -> bool
     ensures { λ r. ⌜ r ≡ goodKind (now (table .entry)) row ⌝ }
 {
     (1 <= byte_of(table, row, 12))
-        & (byte_of(table, row, 12) <= 13)
+        & (byte_of(table, row, 12) <= kind::COPPER_BULB)
         & (byte_of(table, row, 13) <= 6)
         & (byte_of(table, row, 14) <= 2)
 }

@@ -1,4 +1,5 @@
 // Reads a profile and then tables from standard input, and writes how many of them settle, in how many rounds, and to which levels of dust.
+use blocks::PROFILE_BYTES;
 use libc::STDERR_FILENO;
 use libc::STDIN_FILENO;
 use libc::STDOUT_FILENO;
@@ -13,8 +14,6 @@ ghost use lib.ListN.{length};
 ghost use Rattle.totals.specs.Month.{IsMonth};
 ghost use Rattle.reading.specs.Input.{AtMost};
 ghost use Rattle.month.specs.Piece.{IsPiece};
-
-const PROFILE_BYTES: usize = 13;
 
 // A row count and the largest table.
 const MOST_BYTES: usize = 32772;

@@ -1,11 +1,12 @@
 -- The output for a whole input, by its profile and what follows it.
 -- Assumes nothing.
-use mathlib.Core.Path.{_≡_}
-use mathlib.Core.Bool.{false}
+use mathlib.Core.Path.{_≡_, refl}
+use mathlib.Core.Bool.{false, and-false}
 use mathlib.Core.List.{_++_}
 use Prim.Native.Nat.{_<_}
 use native.Mathlib.Omega.{arith}
 use lib.ListN.{length, length-take}
+use lib.Dec.{eqb}
 use lib.Seq.{take-at, drop-at}
 use Rattle.columns.specs.Column.{Bytes}
 use Rattle.layout.specs.Good.{goodProfile}
@@ -22,7 +23,7 @@ output-counted p s h = rw (take-at p s 13 h, drop-at p s 13 h)
 -- of a bad profile, whatever follows it
 pub output-refused : (input : Bytes) → goodProfile (profileOf input) ≡ false → outputOf input ≡ refusalText 1 0
 unfolding outputOf textOf
-output-refused input h = rw h
+output-refused input h = rw (h, and-false (eqb (length (profileOf input)) 13)) refl
 
 -- of an input that ends before the profile does
 pub output-short : (input : Bytes) → length input < 13 → outputOf input ≡ refusalText 1 0

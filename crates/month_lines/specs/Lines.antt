@@ -1,9 +1,10 @@
 -- The lines that the program `month` writes: "one to a line". What stands in quotation marks is document 02's, Change 1.
 -- Assumes nothing.
-use mathlib.Core.Bool.{cond}
+use mathlib.Core.Bool.{cond, _&&_}
 use mathlib.Core.List.{_++_}
 use Prim.Native.Nat.{ℕ, _+_}
 use lib.ListN.{length, take, drop}
+use lib.Dec.{eqb}
 use Rattle.columns.specs.Column.{Bytes, Column, row, concatRows}
 use Rattle.columns.specs.Ascii.{ascii}
 use Rattle.layout.specs.Good.{goodProfile}
@@ -37,9 +38,10 @@ monthText m =
 
 -- ---- the whole input
 
--- "A bad profile gives only `refusal=` and `place=`, as in `settle`": number 1, row 0. Else the month of the tables after it
+-- "A bad profile gives only `refusal=` and `place=`, as in `settle`": number 1, row 0. Else the month of the tables after it. The profile is one of
+-- 13 bytes: one with a byte for bulbs is bad here
 unfoldable pub textOf : Bytes → Month → Bytes
-textOf p m = cond (goodProfile p) (monthText m) (refusalText 1 0)
+textOf p m = cond (eqb (length p) 13 && goodProfile p) (monthText m) (refusalText 1 0)
 
 -- "reads a 13-byte profile, then tables"
 abbrev pub profileOf : Bytes → Bytes

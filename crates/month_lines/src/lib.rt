@@ -1,4 +1,5 @@
 // The lines that the program `month` writes, put into a buffer at a place. Each function answers the place after them.
+use blocks::PROFILE_BYTES;
 use streams::Ending;
 use totals::Month;
 ghost use Prim.Native.Nat.{_+_, _*_, _≤_};
@@ -84,7 +85,7 @@ pub fn text_of(out: &mut [u8], profile: &[u8], month: Month) -> usize
     requires { ⌜ 2048 ≤ length (now out) ⌝ }
     ensures { λ r. ⌜ Puts (textOf (now (profile .entry)) month) 0 (now (out .entry)) (now (out .exit)) r ⌝ }
 {
-    if layout::good_profile(profile) {
+    if (profile.len() == PROFILE_BYTES) & layout::good_profile(profile) {
         return all_lines(out, month);
     }
     lines::refusal(out, 1, 0)

@@ -3,3 +3,4 @@ pub mod Rows
 pub mod Redrawn
 pub mod Accepted
 pub mod Answers
+pub mod Bulbs

@@ -1,5 +1,5 @@
 // The map editor's calls. Each answers 65,536 times the number of the refusal that falls on it plus the row at fault, and then writes no byte;
-// else the rounds of its settling, 1 to 17, or what its own comment says.
+// else the rounds of its settling, 1 to 17, or what its own comment says. A profile has 13 bytes or, for tables with bulbs, 14.
 ghost use lib.IntN.{ℤ};
 ghost use Rattle.places.specs.Places.{cell};
 ghost use Rattle.supports.specs.Supports.{Listed};
@@ -55,7 +55,7 @@ pub extern "C" fn redstone_tick(
     sim::tick(profile, table, state, tick, ticks, signal, weak, strong)
 }
 
-// The table with the block at a position switched, any number but 0 being on, and what it settles to.
+// The table with the block at a position switched, any number but 0 being on, and what it settles to. The state is read and not written.
 #[no_mangle]
 pub extern "C" fn redstone_switch(
     profile: &[u8],

@@ -1,20 +1,19 @@
--- Document 02, Change 4: which tables a profile of 13 bytes accepts, and one of 14.
+-- Document 02, Change 4: what falls on a table by a profile of 13 bytes, and by one of 14.
 -- Assumes nothing.
-use mathlib.Core.Path.{_≡_, refl, ap, sym, _∙_}
+use mathlib.Core.Path.{_≡_, refl, ap, _∙_}
 use mathlib.Core.Logic.{by-cases}
-use mathlib.Core.Bool.{true, false, and-false}
+use mathlib.Core.Bool.{true, false, and-true, and-false}
 use Prim.Native.Nat.{ℕ, _%_, _≤_, _<_, zero-le}
 use native.Mathlib.Nat.{add-zero}
 use native.Mathlib.Decide.{decLt}
 use native.Mathlib.Omega.{arith}
 use lib.ListN.{length, List·getD-eq-default}
-use lib.Dec.{leb}
-use borrow.Author.Tests.{eq-eqb, le-leb}
+use lib.Dec.{ltb}
+use borrow.Author.Tests.{eq-eqb, le-leb, le-ltb, lt-ltb}
 use Rattle.columns.specs.declared.Found.the-variants.{At}
 use Rattle.columns.specs.Column.{Bytes}
 use Rattle.columns.specs.First.{firstFrom}
-use Rattle.columns.proofs.First.{at-first}
-use Rattle.columns.proofs.Truth.{and-true}
+use Rattle.columns.proofs.First.{at-first, first-same}
 use Rattle.blocks.specs.Kind.{CopperBulb}
 use Rattle.blocks.proofs.Bulbs.{withBulb, length-with-bulb}
 use Rattle.world.specs.Rows.{rows, kindOf}
@@ -22,7 +21,7 @@ use Rattle.layout.specs.Good.{goodProfile, goodRow}
 use Rattle.layout.proofs.Profiles.{good-with-bulb}
 use Rattle.refusals.specs.declared.Checked.the-variants.{Refused}
 use Rattle.refusals.specs.Check.{isBad, checkRows, checkTable, checkInput, IsAccepted}
-use Rattle.refusals.proofs.Accepted.{accepted-input, accepted-kinds, input-accepted}
+use Rattle.refusals.proofs.Accepted.{accepted-input, accepted-kinds}
 
 -- "with 13 a bulb row is number 4": where it is the first bad row
 pub bulb-refused : (p t : Bytes) (i : ℕ) → goodProfile p ≡ true → length p ≡ 13 → length t % 32 ≡ 0 → rows t ≤ 1024 → i < rows t
@@ -43,18 +42,20 @@ module _ (p t : Bytes) (long : length p ≡ 13) where
       let past : kindOf t i ≡ 0 = List·getD-eq-default t 0 (omega (arith, accepted-input p t h .1 .whole)) in
       omega arith)
 
-  module _ (b : ℕ) where
-    -- it is accepted with a fourteenth byte, too,
-    pub accepted-with-bulb : b ≤ 31 → IsAccepted p t → IsAccepted (withBulb p b) t
-    accepted-with-bulb low h =
-        let (good, table) = accepted-input p t h in
-        input-accepted (withBulb p b) t (good-with-bulb p b long ∙ rw (good, le-leb b 31 low) refl) table
-        (λ i l. rw (length-with-bulb p b long) (omega (arith, accepted-kinds p t h i l)))
+-- On a table without bulbs a fourteenth byte of at most 31 makes no difference: what falls on the table, and at which row, is the same.
+pub check-with-bulb : (p t : Bytes) → length p ≡ 13 → ((i : ℕ) → i < rows t → ¬ (kindOf t i ≡ CopperBulb)) → (b : ℕ) → b ≤ 31
+    → checkInput (withBulb p b) t ≡ checkInput p t
+unfolding checkInput checkTable checkRows
+check-with-bulb p t long none b low =
+    let good : goodProfile (withBulb p b) ≡ goodProfile p = good-with-bulb p b long ∙ rw (le-leb b 31 low) (and-true (goodProfile p)) in
+    let found : firstFrom (isBad 14 t) (rows t) 0 ≡ firstFrom (isBad 13 t) (rows t) 0 =
+    first-same (isBad 14 t) (isBad 13 t) (rows t) 0 (λ i _ l. same-bad i (none i (omega arith))) in
+    rw (good, length-with-bulb p b long, long, found) refl
+  where
+    below : (k : ℕ) → ¬ (k ≡ CopperBulb) → ltb k 14 ≡ ltb k 13
+    below k n =
+        by-cases (decLt k 13) (λ l. rw (lt-ltb k 14 (omega arith), lt-ltb k 13 l) refl)
+        (λ m. rw (le-ltb k 14 (omega arith), le-ltb k 13 (omega arith)) refl)
 
-    -- and a table without bulbs that is accepted with 14 bytes is accepted with the first 13.
-    pub accepted-without-bulb : IsAccepted (withBulb p b) t → ((i : ℕ) → i < rows t → ¬ (kindOf t i ≡ CopperBulb)) → IsAccepted p t
-    accepted-without-bulb h none =
-        let (good, table) = accepted-input (withBulb p b) t h in
-        let (first, _) = and-true (goodProfile p) (leb b 31) (sym (good-with-bulb p b long) ∙ good) in
-        input-accepted p t first table
-        (λ i l. rw long (omega (arith, rw (length-with-bulb p b long) at (accepted-kinds (withBulb p b) t h i l), none i l)))
+    same-bad : (i : ℕ) → ¬ (kindOf t i ≡ CopperBulb) → isBad 14 t i ≡ isBad 13 t i
+    same-bad i n = rw (below (kindOf t i) n) refl

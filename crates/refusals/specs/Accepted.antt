@@ -1,4 +1,5 @@
--- What refusals 2 to 5 leave: a table of whole rows, few enough, each good and in order.
+-- What refusals 2 to 5 leave, whatever the profile: a table of whole rows, few enough, each good and in order. That each is of a kind which the
+-- profile has a byte for is `accepted-kinds`.
 -- Assumes nothing.
 use mathlib.Core.Path.{_≡_}
 use mathlib.Core.Bool.{true}

@@ -1,4 +1,4 @@
--- Worked examples of the whole text, computed: the refusals that no profile and no table are asked for.
+-- Worked examples of the whole text, computed: the refusals that rest on the input's length alone.
 -- Assumes nothing.
 use mathlib.Core.Path.{_≡_}
 use Prim.Native.Nat.{_%_, _≤_, _<_}
@@ -17,7 +17,7 @@ short : (input : Bytes) → length input < 13 → settleText input ≡ ascii "re
 unfolding refusalText lineOf decimalOf decimalWithin
 short input h = short-text input h
 
--- "More than 32,781 bytes is number 3 before all else", and 32,782 bytes are of 14
+-- "More than 32,781 bytes is number 3 before all else", but 32,782, which have the remainder 14
 crowded : (input : Bytes) → 32783 ≤ length input → settleText input ≡ ascii "refusal=3\nplace=0\n"
 unfolding refusalText lineOf decimalOf decimalWithin
 crowded input h = crowded-text input h

@@ -23,9 +23,13 @@ textOf (Refused n i) done = refusalText n i
 
 -- ---- the whole input
 
--- "tells 13 from 14 by the length's remainder by 32": how many bytes the profile has
+-- "tells 13 from 14 by the length's remainder by 32"
+abbrev pub hasBulbByte : Bytes → Bool
+hasBulbByte input = eqb (length input % 32) 14
+
+-- how many bytes the profile has, where whole rows follow it
 abbrev pub profileBytes : Bytes → ℕ
-profileBytes input = cond (eqb (length input % 32) 14) 14 13
+profileBytes input = cond (hasBulbByte input) 14 13
 
 -- "reads the profile and then the table"
 abbrev pub profileOf : Bytes → Bytes
@@ -40,11 +44,11 @@ checkRun p t = checkSettle p t (freshDevices t) 128 (rows t) (rows t) (rows t)
 
 -- 32,781 bytes, but "its byte limit becomes 32,782 with 14"
 abbrev pub mostBytes : Bytes → ℕ
-mostBytes input = cond (eqb (length input % 32) 14) 32782 32781
+mostBytes input = cond (hasBulbByte input) 32782 32781
 
 -- after 13 bytes or 14 the rows are whole
 abbrev pub hasWholeRows : Bytes → Bool
-hasWholeRows input = eqb (length input % 32) 13 || eqb (length input % 32) 14
+hasWholeRows input = eqb (length input % 32) 13 || hasBulbByte input
 
 -- "More than 32,781 bytes is number 3 before all else"; "still calls less than 13 bytes number 1 .. and calls any other remainder number 2, before
 -- number 1's other cases"

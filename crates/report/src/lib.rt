@@ -1,4 +1,6 @@
 // The text that the program `settle` writes, as a function of the whole of its input.
+use blocks::PROFILE_BYTES;
+use blocks::PROFILE_BYTES_WITH_BULB;
 use refusals::Checked;
 use world::row;
 ghost use mathlib.Core.Path.{_≡_};
@@ -12,13 +14,11 @@ ghost use Rattle.report.specs.Text.{profileBytes, profileOf, tableOf, ch
 // Where a buffer has this many bytes, the text has room in it.
 pub const ROOM: usize = 65536;
 
-// A profile without a byte for bulbs, and with one.
-const PROFILE: usize = 13;
-
-const PROFILE_WITH_BULB: usize = 14;
-
 // The longer profile and the largest table.
 const MOST: usize = 32782;
+
+// So many bytes, and no fewer, tell that an input is too long.
+pub const TOO_MANY: usize = 32783;
 
 // The text of an accepted table.
 fn settled(profile: &[u8], table: &[u8], out: &mut [u8]) -> usize
@@ -55,17 +55,18 @@ fn checked(profile: &[u8], table: &[u8], out: &mut [u8]) -> usize
 fn profile_bytes(input: &[u8]) -> usize
     ensures { λ r. ⌜ r ≡ profileBytes (now (input .entry)) ⌝ }
 {
-    if input.len() % row::WIDTH == PROFILE_WITH_BULB {
-        return PROFILE_WITH_BULB;
+    if input.len() % row::WIDTH == PROFILE_BYTES_WITH_BULB {
+        return PROFILE_BYTES_WITH_BULB;
     }
-    PROFILE
+    PROFILE_BYTES
 }
 
 // Whether an input is a profile and whole rows, by its length.
 fn has_whole_rows(input: &[u8]) -> bool
     ensures { λ r. ⌜ r ≡ hasWholeRows (now (input .entry)) ⌝ }
 {
-    (input.len() % row::WIDTH == PROFILE) | (input.len() % row::WIDTH == PROFILE_WITH_BULB)
+    (input.len() % row::WIDTH == PROFILE_BYTES)
+        | (input.len() % row::WIDTH == PROFILE_BYTES_WITH_BULB)
 }
 
 // The text of an input of no fewer bytes than the shorter profile, parted into the profile and the table.
@@ -85,7 +86,7 @@ fn whole(input: &[u8], out: &mut [u8]) -> usize
     if MOST < input.len() {
         return lines::refusal(out, 3, 0);
     }
-    if input.len() < PROFILE {
+    if input.len() < PROFILE_BYTES {
         return lines::refusal(out, 1, 0);
     }
     if has_whole_rows(input) {

@@ -14,17 +14,18 @@ use Rattle.blocks.specs.Kind.{CopperBulb}
 use Rattle.blocks.specs.Profile.{readsBlockPower, propertiesOf}
 use Rattle.blocks.proofs.Bulbs.{withBulb, kind-properties}
 use Rattle.world.specs.Rows.{rows, kindOf, isPowered}
+use Rattle.traits.proofs.Profiles.{traits-with-bulb}
 use Rattle.refusals.specs.Check.{IsAccepted}
 use Rattle.refusals.proofs.Bulbs.{no-bulb}
 use Rattle.levels.specs.Numbers.{hasPower, number}
 use Rattle.electrical.specs.Answer.{settled}
-use Rattle.electrical.proofs.Bulbs.{traits-with-bulb, settled-with-bulb}
+use Rattle.electrical.proofs.Bulbs.{settled-with-bulb}
 use Rattle.states.specs.Row.{litOf, hadPowerOf, goodLight}
 use Rattle.states.proofs.Parts.{parts}
 use Rattle.fresh.specs.Fresh.{freshLight, freshHadPower, freshRow}
 use Rattle.fresh.proofs.FreshRows.{length-fresh}
 use Rattle.lamp.specs.Step.{lampRow}
-use Rattle.bulb.specs.Step.{flipped, nextLight, bulbRow}
+use Rattle.bulb.specs.Step.{flipped, nextBulbLight, bulbRow}
 use Rattle.devices.specs.Step.{deviceRow, lightRow}
 use Rattle.steps.proofs.Profiles.{same-device}
 use Rattle.updates.specs.State.{sixteen, devicesOf, IsValidState, freshDevices, freshState}
@@ -33,8 +34,8 @@ use Rattle.running.proofs.States.{row-length, next, device-row, tick-ro
 use Rattle.running.proofs.Valid.{valid-state}
 
 -- weak or strong power at row i, of what a state settles to
-abbrev pub powered : (p t st : Bytes) → ℕ → Bool
-powered p t st i = hasPower (settledOf p t st .weak) (settledOf p t st .strong) i
+abbrev pub hasPowerIn : (p t st : Bytes) → ℕ → Bool
+hasPowerIn p t st i = hasPower (settledOf p t st .weak) (settledOf p t st .strong) i
 
 -- ---- fresh: "Fresh light comes from powered, missing false; fresh byte 9 from settled power"
 
@@ -70,22 +71,23 @@ module _ (p t st : Bytes) (long : length st ≡ rows t * 16) (i : ℕ) (h : i < 
   left-alone = device-row p t st long i h ∙ rw bulb refl
 
   -- the tick settles to what its columns hold
-  same-power : powered p t (tick p t st) i ≡ hasPower (next p t st .weak) (next p t st .strong) i
+  same-power : hasPowerIn p t (tick p t st) i ≡ hasPower (next p t st .weak) (next p t st .strong) i
   unfolding settledOf
   same-power = ap (λ d. hasPower (settled p t d .weak) (settled p t d .strong) i) (tick-devices p t st long)
 
-  bulb-row : sixteen (tick p t st) i
-      ≡ set (set (sixteen st i) 2 (nextLight (powered p t (tick p t st) i) (hadPowerOf (sixteen st i)) (litOf (sixteen st i)))) 9 (number (powered p t (tick p t st) i))
+  -- bytes 2 and 9 of a bulb's row, and every other byte as it was
+  pub tick-bulb : sixteen (tick p t st) i
+      ≡ set (set (sixteen st i) 2 (nextBulbLight (hasPowerIn p t (tick p t st) i) (hadPowerOf (sixteen st i)) (litOf (sixteen st i)))) 9 (number (hasPowerIn p t (tick p t st) i))
   unfolding lightRow lampRow bulbRow
-  bulb-row = tick-row p t st long i h ∙ rw (bulb, left-alone, same-power) refl
+  tick-bulb = tick-row p t st long i h ∙ rw (bulb, left-alone, same-power) refl
 
   -- "then byte 9 is written": "whether it had power after the last tick"
-  pub tick-had-power : hadPowerOf (sixteen (tick p t st) i) ≡ number (powered p t (tick p t st) i)
-  tick-had-power = ap hadPowerOf bulb-row ∙ written-had-power (sixteen st i) _ _ (row-length t st long i h)
+  pub tick-had-power : hadPowerOf (sixteen (tick p t st) i) ≡ number (hasPowerIn p t (tick p t st) i)
+  tick-had-power = ap hadPowerOf tick-bulb ∙ written-had-power (sixteen st i) _ _ (row-length t st long i h)
 
   -- the light after the tick
-  pub tick-light : litOf (sixteen (tick p t st) i) ≡ nextLight (powered p t (tick p t st) i) (hadPowerOf (sixteen st i)) (litOf (sixteen st i))
-  tick-light = ap litOf bulb-row ∙ written-light (sixteen st i) _ _ (row-length t st long i h)
+  pub tick-light : litOf (sixteen (tick p t st) i) ≡ nextBulbLight (hasPowerIn p t (tick p t st) i) (hadPowerOf (sixteen st i)) (litOf (sixteen st i))
+  tick-light = ap litOf tick-bulb ∙ written-light (sixteen st i) _ _ (row-length t st long i h)
 
 -- ---- "the light flips exactly if power is there and byte 9 is 0"
 
@@ -99,14 +101,18 @@ module _ (p t st : Bytes) (v : IsValidState t st) (i : ℕ) (h : i < rows t) (bu
   unfolding goodLight
   low = leb-true _ _ (and-true _ _ (rw bulb at (parts t i (sixteen st i) (valid-state t st v .good i h) .light)) .0)
 
-  pub flips : powered p t (tick p t st) i ≡ true → hadPowerOf (sixteen st i) ≡ 0 → ¬ (litOf (sixteen (tick p t st) i) ≡ litOf (sixteen st i))
-  unfolding nextLight
-  flips power none e =
-      differs (litOf (sixteen st i)) low
-      (sym (tick-light p t st (valid-state t st v .sized) i h bulb ∙ rw (power, none) refl) ∙ e)
+  -- to the other light, where both hold,
+  pub flips : hasPowerIn p t (tick p t st) i ≡ true → hadPowerOf (sixteen st i) ≡ 0
+      → (litOf (sixteen (tick p t st) i) ≡ flipped (litOf (sixteen st i))) × (¬ (litOf (sixteen (tick p t st) i) ≡ litOf (sixteen st i)))
+  unfolding nextBulbLight
+  flips power none =
+      let other : litOf (sixteen (tick p t st) i) ≡ flipped (litOf (sixteen st i)) =
+      tick-light p t st (valid-state t st v .sized) i h bulb ∙ rw (power, none) refl in
+      (other, λ e. differs (litOf (sixteen st i)) low (sym other ∙ e))
 
-  pub stays : (powered p t (tick p t st) i && eqb (hadPowerOf (sixteen st i)) 0) ≡ false → litOf (sixteen (tick p t st) i) ≡ litOf (sixteen st i)
-  unfolding nextLight
+  -- and where one does not, it stays
+  pub stays : (hasPowerIn p t (tick p t st) i && eqb (hadPowerOf (sixteen st i)) 0) ≡ false → litOf (sixteen (tick p t st) i) ≡ litOf (sixteen st i)
+  unfolding nextBulbLight
   stays none = tick-light p t st (valid-state t st v .sized) i h bulb ∙ rw none refl
 
 -- ---- "On tables without bulbs equality with the Rust stays as it was": a table that 13 bytes accept, under these and a fourteenth
@@ -128,7 +134,7 @@ module _ (p t : Bytes) (long : length p ≡ 13) (h : IsAccepted p t) (b : ℕ) w
   unfolding setDevices withDevices
   set-devices st =
       rw (settled-of st)
-      (λ x. concatRows (rows t) (λ i. same-device (withBulb p b) p t (traits-with-bulb p t long h b) reads (devicesOf t st) (numbersOf (settledOf p t st)) i (sixteen st i) x))
+      (λ x. concatRows (rows t) (λ i. same-device (withBulb p b) p t (traits-with-bulb p t long (no-bulb p t long h) b) reads (devicesOf t st) (numbersOf (settledOf p t st)) i (sixteen st i) x))
 
   pub tick-with-bulb : (st : Bytes) → tick (withBulb p b) t st ≡ tick p t st
   unfolding tick setLights

@@ -55,7 +55,7 @@ pub fn settle_state(
     settle(profile, table, devices, signal, weak, strong)
 }
 
-// One tick, from a state that is settled to the next: devices from the old devices and columns, then the columns, then lamps and bulbs from these.
+// One tick, from a settled state to the next settled one: devices from the old devices and columns, then the columns, then lamps and bulbs from these.
 fn advance_tick(
     profile: &[u8],
     table: &[u8],

@@ -18,7 +18,7 @@ fn report_on(input: &[u8]) {
 
 // One byte more than the longer profile and the largest table have is enough to tell that there are too many.
 fn main() {
-    let mut input = [0u8; 32783];
+    let mut input = [0u8; report::TOO_MANY];
     match reading::read_all(STDIN_FILENO, &mut input) {
         Input::Bytes(n) => report_on(&input[..n]),
         Input::Unreadable => {

@@ -69,7 +69,7 @@ module _ (t : Bytes) (i : ℕ) (r : Bytes) where
       (ltb (queueOf r) (2 ^ delayOf t i) && eqb (queueOf r % 2) (deviceOf r))
       (eqb (queueOf r) 0)
 
-  -- "lamp lit 0/1"; "ticks left .., 0-2, 0 if unlit"; a bulb's light "0 or 1"
+  -- "lamp lit 0/1"; "ticks left .., 0-2, 0 if unlit"; a bulb's light "0 or 1", and its byte 3 is 0
   unfoldable pub goodLight : Bool
   goodLight =
       cond (eqb (kindOf t i) RedstoneLamp)

@@ -23,7 +23,7 @@ use Rattle.repeater.specs.Step.{isRequested, isLocked, nextQueue, repeaterRow}
 use Rattle.torch.specs.Step.{torchSupportIsPowered, nextTorch, nextToggles, nextCandidate, torchRow}
 use Rattle.comparator.specs.Step.{nextComparator}
 use Rattle.lamp.specs.Step.{nextLit, nextLeft, lampRow}
-use Rattle.bulb.specs.Step.{flipped, nextLight, bulbRow}
+use Rattle.bulb.specs.Step.{flipped, nextBulbLight, bulbRow}
 use Rattle.devices.specs.Step.{deviceRow, lightRow}
 use Rattle.states.proofs.Powers.{delay-range}
 use Rattle.states.proofs.Parts.{Parts}
@@ -87,7 +87,7 @@ light-step false light h = rw h
 module _ (t : Bytes) (weak strong : Column) (i : ℕ) where
   bulb-on : kindOf t i ≡ CopperBulb → (a b c d e f g h k l : ℕ) (rest : Bytes)
       → Parts t i (a ∷ b ∷ c ∷ d ∷ e ∷ f ∷ g ∷ h ∷ k ∷ l ∷ rest) → Parts t i (bulbRow t weak strong i (a ∷ b ∷ c ∷ d ∷ e ∷ f ∷ g ∷ h ∷ k ∷ l ∷ rest))
-  unfolding goodQueue goodLight goodTorch goodHadPower bulbRow nextLight
+  unfolding goodQueue goodLight goodTorch goodHadPower bulbRow nextBulbLight
   bulb-on kind a b c d e f g h k l rest p =
       let power = hasPower weak strong i in
       let old : (leb c 1 && eqb d 0) ≡ true = rw kind at (p .light) in

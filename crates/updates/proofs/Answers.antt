@@ -1,16 +1,17 @@
 -- Which refusals fresh, tick and switch give, and what their answers tell.
 -- Assumes nothing.
-use mathlib.Core.Path.{_≡_, refl}
+use mathlib.Core.Path.{_≡_, refl, sym, _∙_}
 use mathlib.Core.Bool.{_&&_}
 use mathlib.Core.List.{[], _∷_, _++_}
 use Prim.Native.Nat.{ℕ, _+_, _*_, _≤_}
-use native.Mathlib.Omega.{arith}
 use lib.ListN.{length}
 use lib.Dec.{eqb, leb}
 use Rattle.columns.specs.Column.{Bytes, Column}
 use Rattle.places.specs.declared.Pos.{Pos}
 use Rattle.world.specs.Rows.{rows}
-use Rattle.refusals.specs.declared.Checked.the-variants.{Refused}
+use Rattle.refusals.specs.declared.Checked.{Checked}
+use Rattle.refusals.specs.declared.Checked.the-variants.{Accepted, Refused}
+use Rattle.refusals.specs.Check.{written}
 use Rattle.refusals.specs.Answers.{Gives, ofInput, Tells}
 use Rattle.refusals.proofs.Accepted.{accepted-input}
 use Rattle.refusals.proofs.Gives.{or-gives, also-gives, wider-gives, not-given, input-gives, values-give}
@@ -55,6 +56,11 @@ module _ (p t st : Bytes) where
     pub tick-never-8 : (now asked i : ℕ) → ¬ (checkTick p t st now asked signal weak strong ≡ Refused 8 i)
     tick-never-8 now asked i = not-given (tick-gives now asked) 8 i refl
 
+-- what is written where it makes no difference
+pub either-way : (c : Checked) (st : Bytes) → written c st st ≡ st
+either-way Accepted st = refl
+either-way (Refused n i) st = refl
+
 -- ---- the answers: "1 to 17, the rounds, or 65,536 times the number plus the row"
 
 module _ {p t st st′ : Bytes} {signal weak strong signal′ weak′ strong′ : Column} {r : ℕ} where
@@ -75,7 +81,9 @@ module _ {p t st st′ : Bytes} {signal weak strong signal′ weak′ strong′ 
 module _ {p t t′ st st′ : Bytes} {q : Pos} {power : ℕ} {signal weak strong signal′ weak′ strong′ : Column} {r : ℕ} where
   pub switch-tells : Switches p t t′ st st′ q power signal weak strong signal′ weak′ strong′ r
       → Tells ofCall (checkStep p t st (length signal) (length weak) (length strong)) r
-      (SettledTo p (switched t q power) (devicesOf t st) signal′ weak′ strong′ r × (t′ ≡ switched t q power))
-      (Unchanged signal weak strong signal′ weak′ strong′ × (t′ ≡ t))
+      ((SettledTo p (switched t q power) (devicesOf t st) signal′ weak′ strong′ r × (t′ ≡ switched t q power)) × (st′ ≡ st))
+      ((Unchanged signal weak strong signal′ weak′ strong′ × (t′ ≡ t)) × (st′ ≡ st))
   switch-tells f =
-      tells-also (settling-tells refl (step-gives p t st (length signal) (length weak) (length strong)) (f .answer) (f .columns)) (f .table)
+      let c = checkStep p t st (length signal) (length weak) (length strong) in
+      let settles = settling-tells refl (step-gives p t st (length signal) (length weak) (length strong)) (f .answer) (f .columns) in
+      tells-also (tells-also settles (f .table)) (f .state ∙ sym (either-way c st))

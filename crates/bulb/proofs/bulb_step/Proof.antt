@@ -20,8 +20,8 @@ slice-read-had-power c = search needs
 slice-read-light : tie.Need-slice-read-light
 slice-read-light c = search needs
 
-next-light-requires : tie.Need-next-light-requires
-next-light-requires c κs = search needs
+next-bulb-light-requires : tie.Need-next-bulb-light-requires
+next-bulb-light-requires c κs = search needs
 
 slice-write-sixteen : tie.Need-slice-write-sixteen
 slice-write-sixteen c = search needs
@@ -49,7 +49,7 @@ bulb-step-spec =
     number-requires
     slice-read-had-power
     slice-read-light
-    next-light-requires
+    next-bulb-light-requires
     slice-write-sixteen
     slice-write-sixteen-2
     same-length

@@ -1,5 +1,4 @@
 -- `month_lines::text_of` meets its contract. Assumes nothing.
-use mathlib.Core.Path.{sym, _∙_}
 use borrow.Author.Needs.{needs}
 use Rattle.month_lines.specs.Lines.{textOf}
 use Rattle.month_lines.proofs.text_of.Statement.{statement}
@@ -19,7 +18,7 @@ unfolding textOf
 returns c =
     let put = c .before .before in
     let test = put .before .before in
-    rw (sym (test .before .good-profile .ensures) ∙ test .if1 .taken) (put .all-lines .ensures)
+    rw (← test .before .good-profile .ensures, test .if1 .taken) (put .all-lines .ensures)
 
 refusal-requires : tie.Need-refusal-requires
 refusal-requires c κs = search needs
@@ -32,7 +31,7 @@ unfolding textOf
 returns-2 c =
     let put = c .before .before in
     let test = put .before .before in
-    rw (sym (test .before .good-profile .ensures) ∙ test .if1 .left) (put .refusal .ensures)
+    rw (← test .before .good-profile .ensures, test .if1 .left) (put .refusal .ensures)
 
 pub text-of-spec : {M : Type 1} → statement M
 text-of-spec =

@@ -1,0 +1,2 @@
+-- What the arms read of a profile.
+pub mod Profiles

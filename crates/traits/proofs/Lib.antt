@@ -1,0 +1,2 @@
+-- What the traits read of a profile.
+pub mod Profiles
