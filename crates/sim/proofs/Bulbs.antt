@@ -61,4 +61,5 @@ module _ {p t st st′ : Bytes} {signal weak strong signal′ weak′ strong′ 
 pub no-tick-written : {p t st st′ : Bytes} {now : ℕ} {signal weak strong signal′ weak′ strong′ : Column} {r : ℕ}
     → Ticks p t st st′ now 0 signal weak strong signal′ weak′ strong′ r → st′ ≡ st
 no-tick-written {p} {t} {st} {now = now} {signal} {weak} {strong} f =
-    f .state ∙ ap (written (checkTick p t st now 0 (length signal) (length weak) (length strong)) st) (ticks-none p t st) ∙ either-way _ st
+    let c = checkTick p t st now 0 (length signal) (length weak) (length strong) in
+    f .state ∙ ap (written c st) (ticks-none p t st) ∙ either-way c st
