@@ -26,7 +26,8 @@ mod compared {
     /// So many calls are compared, or more where DIFF_CALLS says so; 1,000,000 take some minutes.
     const CALLS: u64 = 50_000;
 
-    /// Every number of rounds and every refusal is among the answers.
+    /// Every number of rounds and every refusal is among the answers; and among the tables are such with 13 bytes of
+    /// profile, with 14 and no bulbs, and with bulbs.
     #[test]
     fn redstone_agrees_with_the_original() {
         let calls = setting("DIFF_CALLS", CALLS).max(CALLS);
@@ -36,6 +37,9 @@ mod compared {
         let missing: Vec<_> =
             rounds.chain(refusals).filter(|answer| !tally.answers.contains_key(answer)).collect();
         assert!(missing.is_empty(), "not among the answers: {missing:?}");
+        let tables: u64 = tally.tables.values().sum();
+        let few = [tables - tally.fourteen, tally.fourteen - tally.with_bulbs, tally.with_bulbs];
+        assert!(few.iter().all(|few| *few > tables / 10), "of {tables} tables {few:?} are of a sort");
     }
 
     #[test]
