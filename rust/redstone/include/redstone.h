@@ -147,7 +147,7 @@
 #define REDSTONE_BENCH_PROFILE {0, 31, 1, 0, 0, 0, 0, 0, 0, 0, 31, 1, 0}
 
 /* The same and then CopperBulb 7: components stand on a bulb, and power that reaches it counts, but no repeater reads it
- * and it drives no dust. So the Minecraft Wiki has it, page Copper Bulb: a full block that does not conduct. */
+ * and it drives no dust. So it is in the game: a full block that does not conduct. */
 #define REDSTONE_BENCH_PROFILE_WITH_BULB {0, 31, 1, 0, 0, 0, 0, 0, 0, 0, 31, 1, 0, 7}
 
 #ifdef __cplusplus
@@ -185,7 +185,8 @@ uint32_t redstone_tick(
     uint8_t *strong, size_t strong_length);
 
 /* Writes byte 14 of the row at x, y, z, to 1 where `powered` is 0 and else to 2, and settles the table. Where there is
- * no such row it settles the table as it is. A bulb flips at the next tick. */
+ * no such row it settles the table as it is. The state is not written: a bulb that gets power by this, and keeps it,
+ * flips at the next tick. */
 uint32_t redstone_switch(
     const uint8_t *profile, size_t profile_length,
     uint8_t *table, size_t table_length,

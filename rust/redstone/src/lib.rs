@@ -141,8 +141,8 @@ pub const BENCH_PROFILE: [u8; PROFILE_BYTES] = [0, 31, 1, 0, 0, 0, 0, 0, 0, 0, 3
 /// The bench's own profile, and then the bulb's byte.
 ///
 /// The byte is 7: components stand on a bulb, and weak and strong power that reach it count, but no repeater reads them
-/// and they drive no dust. So the Minecraft Wiki has it, page Copper Bulb: a full block that does not conduct. What
-/// still differs, such as what a comparator reads from a bulb, is in the repository's docs/DIFFERENCES.md.
+/// and they drive no dust. So it is in the game: a full block that does not conduct. What still differs, such as what a
+/// comparator reads from a bulb, is in the repository's docs/DIFFERENCES.md.
 pub const BENCH_PROFILE_WITH_BULB: [u8; PROFILE_BYTES_WITH_BULB] =
     [0, 31, 1, 0, 0, 0, 0, 0, 0, 0, 31, 1, 0, 7];
 
