@@ -42,6 +42,8 @@ fn every_written_light_counts() {
             changes += 1;
         }
     }
+    // docs/DIFFERENCES.md has both numbers.
+    assert_eq!((TRIALS.len(), changes), (34, 241));
     print(&format!("bulb, written lights: {changes}"));
 }
 

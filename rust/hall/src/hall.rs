@@ -72,8 +72,9 @@ impl Hall {
     ///
     /// The profile or the table is refused.
     pub fn from_packed(name: &str, profile: &[u8], table: &[u8]) -> Result<Self, Refused> {
-        let fresh = Circuit::from_table(profile, table)
-            .map_err(|refusal| Refused::file(name, format!("{} ({PACKED})", sentence(&refusal))))?;
+        let fresh = Circuit::from_table(profile, table).map_err(|refusal| {
+            Refused::file(name, format!("{} ({PACKED})", sentence(&refusal, BULB_IN_PACKED)))
+        })?;
         let rows = fresh.blocks().map(|block| block.row).collect();
         Ok(Self { name: name.to_owned(), fresh, rows, switches: Vec::new(), expectations: Vec::new() })
     }
@@ -106,19 +107,25 @@ fn refused_table(name: &str, refusal: &Refusal, reader: &TableReader) -> Refused
         _ => None,
     };
     match line {
-        Some(line) => Refused::line(name, line, sentence(refusal)),
-        None => Refused::file(name, sentence(refusal)),
+        Some(line) => Refused::line(name, line, sentence(refusal, BULB_IN_TEXT)),
+        None => Refused::file(name, sentence(refusal, BULB_IN_TEXT)),
     }
 }
 
-/// What a refusal says; and of a bulb without its byte of the profile, how a hall has it.
-fn sentence(refusal: &Refusal) -> String {
+/// How a text has a bulb, for which its profile has no byte.
+const BULB_IN_TEXT: &str =
+    " (write CopperBulb=7 into the line `profile`, or give a profile that has it with --profile)";
+/// The same of the packed form, which has no lines. Another bracket follows.
+const BULB_IN_PACKED: &str = ", or give a profile that has the bulb's byte with --profile";
+
+/// What a refusal says; and after it, where it is of a bulb without its byte of the profile, what to do.
+fn sentence(refusal: &Refusal, of_bulb: &str) -> String {
     let bulb = i64::from(Kind::CopperBulb.code());
     match refusal.fault {
         // As a kind it is good with a profile that has the byte.
-        Fault::BadRow { field, .. } if field.name() == "kind" && field.value() == bulb => format!(
-            "{refusal} (write CopperBulb=7 into the line `profile`, or give a profile that has it with --profile)"
-        ),
+        Fault::BadRow { field, .. } if field.name() == "kind" && field.value() == bulb => {
+            format!("{refusal}{of_bulb}")
+        }
         _ => refusal.to_string(),
     }
 }

@@ -37,13 +37,14 @@ pub struct Refusal {
 #[derive(Clone, Copy, Debug, Eq, Hash, PartialEq)]
 #[non_exhaustive]
 pub enum RefusalKind {
-    /// 1: the profile has not 13 bytes or 14, Air's is not 0, the torch's is above 63, or another is above 31.
+    /// 1: the profile has neither 13 bytes nor 14, Air's is not 0, the torch's is above 63, or another is above 31.
     Profile,
     /// 2: the table's length is not a multiple of 32.
     Ragged,
     /// 3: the table has more than 1,024 rows.
     Crowded,
-    /// 4: a row has a field outside the layout, or is a bulb and the profile has 13 bytes.
+    /// 4: a row has a field outside the layout, or is a bulb and the profile has 13 bytes, not the 14 that
+    /// [`BENCH_PROFILE_WITH_BULB`](crate::BENCH_PROFILE_WITH_BULB) has.
     BadRow,
     /// 5: a row's position is not after that of the row before.
     Misplaced,

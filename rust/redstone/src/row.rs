@@ -266,8 +266,8 @@ fn read_kind(bytes: &[u8], profile_bytes: usize) -> Result<Kind, BadField> {
     if usize::from(kind.code()) < profile_bytes {
         return Ok(kind);
     }
-    let rule = "that is CopperBulb, and the profile has 13 bytes: give it a fourteenth, the bulb's, as \
-                BENCH_PROFILE_WITH_BULB has";
+    let rule =
+        "that is CopperBulb, and the profile has 13 bytes: give it a fourteenth, the bulb's, such as 7";
     Err(KIND.bad(kind.code(), Allowed::Rule(rule)))
 }
 

@@ -314,15 +314,17 @@ const RULES: &[Rule] = &[
     },
     Rule {
         number: 57,
-        sentence: "it has a bulb at its back, of which it reads the power here; in the game the light, 15 where it is lit",
+        sentence: "it has a bulb at its back, or behind the block there, and reads power alone here; in the game the bulb's \
+                   light, 15 where it is lit",
         holds: |view, row| {
-            view.kind(row) == Kind::Comparator && view.input(row).is_some_and(|block| view.is_bulb(block))
+            let mut read = [view.input(row), view.input_behind_block(row)].into_iter().flatten();
+            view.kind(row) == Kind::Comparator && read.any(|block| view.is_bulb(block))
         },
     },
     Rule {
         number: 58,
-        sentence: "it has power as a block, which puts out a torch on it, or powers a lamp, a bulb or a block beside it; in the \
-                   game it powers nothing",
+        sentence: "it has power as a block, which puts out a torch on it, or powers a lamp, a bulb or a block beside it, or by \
+                   values 8 and 16 of its byte a repeater or dust; in the game it powers nothing",
         holds: |view, row| {
             let is_put_out =
                 |torch: usize| view.kind(torch) == Kind::RedstoneTorch && view.support(torch) == Some(row);
@@ -331,26 +333,30 @@ const RULES: &[Rule] = &[
                     && view.is_powered_by_blocks(frame, block)
                     && !view.is_beside_strong_block(frame, block)
             };
+            let is_read = |repeater: usize| view.is_bulb_read_by_repeater(row, repeater);
+            let is_driven = |dust: usize| view.is_dust_driven_by_bulb(row, dust);
             view.is_bulb(row)
                 && view.ever(|frame| {
-                    view.has_power(frame, row) && view.around(row).any(is_put_out)
+                    view.has_power(frame, row)
+                        && view.around(row).any(|device| is_put_out(device) || is_read(device))
                         || frame.figures(row).strong > 0
-                            && view.around(row).any(|block| gets_power(frame, block))
+                            && view.around(row).any(|block| gets_power(frame, block) || is_driven(block))
                 })
         },
     },
     Rule {
         number: 59,
-        sentence: "a switch powers it, and it flips a tick later, or never if the power has gone by then; in the game at once",
-        holds: |view, row| view.is_bulb_at_switch(row),
+        sentence: "a switch powers it, and it flips a tick later, or never if its power comes and goes, or goes and comes, \
+                   between two ticks; in the game at once",
+        holds: |view, row| view.switched_bulbs.contains(&row),
     },
     Rule {
         number: 60,
-        sentence: "it has power at the start and is dark; in the game a bulb that is set beside power is lit: write \
-                   powered=true, or powered=false for one that is to be dark",
+        sentence: "it has power at the start and is dark; in the game a bulb that is set beside power is lit, if the game powers \
+                   it there, too (2, 3, 4, 58): write powered=true, or powered=false for one that is to be dark",
         holds: |view, row| {
-            let had_power = matches!(view.run.frames[0].devices[row], Device::Bulb { had_power: true, .. });
-            had_power && view.row(row).powered().is_none()
+            let had_power = matches!(view.fresh.devices[row], Device::Bulb { had_power: true, .. });
+            had_power && view.row(row).powered().is_none() && !view.is_powered_here_alone(&view.fresh, row)
         },
     },
 ];

@@ -1,6 +1,8 @@
 //! A run, with what stands beside what.
 
-use redstone::{Arm, Circuit, Device, Facing, Kind, Refusal, Row, Shape, TORCH_CHARGES_ABOVE, redraw, rows};
+use redstone::{
+    Arm, Circuit, Device, Facing, Kind, Refusal, Row, Settled, Shape, TORCH_CHARGES_ABOVE, redraw, rows,
+};
 
 use crate::device::place;
 use crate::hall::Hall;
@@ -32,6 +34,10 @@ fn support_in_game(row: &Row) -> Option<[i8; 3]> {
 /// A run with what stands beside what.
 pub struct View<'a> {
     pub run: &'a Run,
+    /// The hall before anything is switched, even at tick 0.
+    pub fresh: Frame,
+    /// The bulbs that get power by a switch, and not by a tick.
+    pub switched_bulbs: Vec<usize>,
     profile: &'a [u8],
     /// The rows after a redraw, which shows where a line of dust ends.
     redrawn: Vec<Row>,
@@ -55,6 +61,8 @@ impl<'a> View<'a> {
         let resting = run.rows.iter().map(|row| row.with_support(support_in_game(row)));
         Ok(Self {
             run,
+            fresh: Frame::of(&hall.fresh, Vec::new()),
+            switched_bulbs: switched_bulbs(hall, run)?,
             profile: hall.fresh.profile(),
             redrawn,
             unsupported: hall.fresh.unsupported()?,
@@ -139,6 +147,14 @@ impl<'a> View<'a> {
         self.at(row, opposite(self.direction(row)?))
     }
 
+    /// The block behind the one that a comparator has as its input, if in the game it reads through that: a block that
+    /// takes power and has less than 15 at some tick.
+    pub fn input_behind_block(&self, row: usize) -> Option<usize> {
+        let block = self.input(row)?;
+        let is_read_through = self.takes_power(block) && self.ever(|frame| self.power(frame, block) < 15);
+        self.at(block, opposite(self.direction(row)?)).filter(|_| is_read_through)
+    }
+
     pub fn sides(&self, row: usize) -> impl Iterator<Item = usize> {
         let direction = self.direction(row);
         let is_across =
@@ -173,6 +189,25 @@ impl<'a> View<'a> {
         self.has_property(Kind::RedstoneTorch, TORCH_CHARGES_ABOVE)
     }
 
+    /// Whether a row is a repeater with a bulb at its input, of which it reads the power.
+    pub fn is_bulb_read_by_repeater(&self, bulb: usize, row: usize) -> bool {
+        const READ_BY_REPEATERS: u8 = 8;
+        let is_read = self.has_property(Kind::CopperBulb, READ_BY_REPEATERS);
+        is_read && self.kind(row) == Kind::Repeater && self.input(row) == Some(bulb)
+    }
+
+    /// Whether a row is dust that takes the strong power of a bulb: over it, under it, or with an arm to it.
+    pub fn is_dust_driven_by_bulb(&self, bulb: usize, row: usize) -> bool {
+        const DRIVES_DUST: u8 = 16;
+        let arms = self.row(row).arms().unwrap_or_default();
+        let has_arm = |(side, arm): (Facing, Option<Arm>)| {
+            matches!(arm, Some(Arm::Side | Arm::Up)) && self.at(row, side) == Some(bulb)
+        };
+        self.has_property(Kind::CopperBulb, DRIVES_DUST)
+            && self.kind(row) == Kind::RedstoneWire
+            && (!self.beside(row).any(|block| block == bulb) || SIDES.into_iter().zip(arms).any(has_arm))
+    }
+
     /// Whether a torch, repeater or comparator, beside a block, answers to its power.
     pub fn is_device_that_reads(&self, row: usize, block: usize) -> bool {
         match self.kind(row) {
@@ -189,16 +224,33 @@ impl<'a> View<'a> {
 
     /// Whether a row, beside a block with strong power, answers to it.
     pub fn reads(&self, row: usize, block: usize) -> bool {
-        matches!(self.kind(row), Kind::RedstoneWire | Kind::RedstoneLamp)
-            || self.is_device_that_reads(row, block)
+        self.kind(row) == Kind::RedstoneWire || self.is_light(row) || self.is_device_that_reads(row, block)
     }
 
     pub fn powered_by_redstone_block(&self, row: usize) -> bool {
         self.takes_power(row) && self.around(row).any(|other| self.kind(other) == Kind::RedstoneBlock)
     }
 
+    fn power(&self, frame: &Frame, row: usize) -> u8 {
+        frame.figures(row).weak.max(frame.figures(row).strong)
+    }
+
     pub fn has_power(&self, frame: &Frame, row: usize) -> bool {
-        frame.figures(row).weak.max(frame.figures(row).strong) > 0
+        self.power(frame, row) > 0
+    }
+
+    /// Whether nothing beside a bulb with power has power in the game: there are bulbs (58), and blocks that a redstone
+    /// block alone powers (2, 3).
+    pub fn is_powered_here_alone(&self, frame: &Frame, bulb: usize) -> bool {
+        let gives = |row: usize| frame.figures(row).signal > 0;
+        let by_redstone_block = |block: usize| {
+            let is_such = |other: usize| self.kind(other) == Kind::RedstoneBlock;
+            self.around(block).any(is_such) && self.around(block).all(|other| is_such(other) || !gives(other))
+        };
+        self.around(bulb).all(|block| {
+            !gives(block)
+                && (self.is_bulb(block) || !self.has_power(frame, block) || by_redstone_block(block))
+        })
     }
 
     /// Whether a block has weak power alone, and no dust gives it.
@@ -302,23 +354,27 @@ impl<'a> View<'a> {
             _ => false,
         })
     }
+}
 
-    /// Whether a bulb has power when something is switched, and had none after the tick; or whether there is a bulb when
-    /// one thing is switched twice, so that power may have come or gone between.
-    pub fn is_bulb_at_switch(&self, row: usize) -> bool {
-        let is_switched_twice = |frame: &Frame| {
-            let switches = &frame.switches;
-            switches
-                .iter()
-                .enumerate()
-                .any(|(at, one)| switches[..at].iter().any(|other| other.position == one.position))
-        };
-        let mut frames = self.run.frames.iter().filter(|frame| !frame.switches.is_empty());
-        frames.any(|frame| match frame.devices[row] {
-            Device::Bulb { had_power, .. } => {
-                !had_power && self.has_power(frame, row) || is_switched_twice(frame)
-            }
-            _ => false,
-        })
+/// The bulbs that get power by a switch, tick by tick and switch by switch: of those of one tick a frame has only the last.
+fn switched_bulbs(hall: &Hall, run: &Run) -> Result<Vec<usize>, Refusal> {
+    let is_bulb = |row: &usize| run.rows[*row].kind() == Kind::CopperBulb;
+    let bulbs: Vec<_> = (0..run.rows.len()).filter(is_bulb).collect();
+    let mut found = Vec::new();
+    if bulbs.is_empty() {
+        return Ok(found);
     }
+    let mut circuit = hall.fresh.clone();
+    for (tick, frame) in run.ticks().filter(|(_, frame)| !frame.switches.is_empty()) {
+        circuit.tick(tick as u32 - circuit.tick_number())?;
+        for switch in &frame.switches {
+            let before = circuit.settled().clone();
+            circuit.switch(switch.position, switch.on)?;
+            let has_power =
+                |settled: &Settled, row: usize| settled.weak()[row].max(settled.strong()[row]) > 0;
+            let gets_power = |row: &usize| !has_power(&before, *row) && has_power(circuit.settled(), *row);
+            found.extend(bulbs.iter().copied().filter(gets_power));
+        }
+    }
+    Ok(found)
 }

@@ -289,6 +289,64 @@ fn what_the_game_does_too_gets_no_hint() {
             &[59, 60],
             None,
         ),
+        // A lamp that a redstone block lights gives a bulb power here alone, which is no power that it is set beside.
+        ("0,0,0 RedstoneBlock\n1,0,0 RedstoneLamp\n2,0,0 CopperBulb\n", &[60], Some(3)),
+        ("0,0,0 RedstoneBlock\n1,0,0 Solid\n2,0,0 CopperBulb\n", &[3, 60], Some(2)),
+        (
+            "0,0,0 CopperBulb powered=false\n0,1,0 Lever support=0,-1,0 powered=true\n1,0,0 CopperBulb\n",
+            &[60],
+            Some(58),
+        ),
+        // The same with a lever that is on at the block or at the bulb, and with no redstone block.
+        (
+            "0,0,0 RedstoneBlock\n1,0,0 Solid\n1,1,0 Lever support=0,-1,0 powered=true\n2,0,0 CopperBulb\n",
+            &[],
+            Some(60),
+        ),
+        (
+            "0,0,0 RedstoneBlock\n1,0,0 Solid\n2,0,0 CopperBulb\n2,1,0 Lever support=1,0,0 powered=true\n",
+            &[],
+            Some(60),
+        ),
+        ("0,0,0 Solid\n0,1,0 Lever support=0,-1,0 powered=true\n1,0,0 CopperBulb\n", &[2, 3], Some(60)),
+        // It has power before the switches of tick 0.
+        (
+            "0,0,0 CopperBulb\n0,1,0 Lever support=0,-1,0 powered=true\nswitch tick 0 0,1,0 off\n",
+            &[59],
+            Some(60),
+        ),
+        // A comparator reads through a block that conducts and has less than 15, if only at times.
+        ("0,0,0 CopperBulb\n1,0,0 RedstoneLamp\n2,0,0 Comparator facing=East\n", &[], Some(57)),
+        (
+            "0,0,0 CopperBulb\n1,0,0 Solid\n1,1,0 Lever support=0,-1,0\n2,0,0 Comparator facing=East\n\
+             switch tick 3 1,1,0 on\n",
+            &[],
+            Some(57),
+        ),
+        (
+            "0,0,0 CopperBulb\n1,0,0 Solid\n1,1,0 Lever support=0,-1,0 powered=true\n\
+             2,0,0 Comparator facing=East\n",
+            &[57],
+            None,
+        ),
+        ("0,0,0 CopperBulb\n1,0,0 Transparent\n2,0,0 Comparator facing=East\n", &[57], None),
+        ("0,0,0 CopperBulb\n1,0,0 Solid\n2,0,0 Solid\n3,0,0 Comparator facing=East\n", &[57], None),
+        ("0,0,0 CopperBulb\n1,0,0 Solid\n2,0,0 Comparator facing=West\n", &[57], None),
+        ("0,0,0 CopperBulb\n1,0,0 Solid\n2,0,0 Repeater facing=East\n", &[57], None),
+        // By value 8 a repeater reads a bulb, and by 16 dust over it, under it or with an arm to it takes its strong power.
+        (&fed_bulb(15, "1,0,0 Repeater facing=East\n"), &[], Some(58)),
+        (&fed_bulb(23, "1,0,0 Repeater facing=East\n"), &[58], None),
+        (&fed_bulb(15, "1,0,0 Repeater facing=West\n"), &[58], None),
+        (&fed_bulb(23, "0,-1,0 RedstoneWire\n"), &[], Some(58)),
+        (&fed_bulb(15, "0,-1,0 RedstoneWire\n"), &[58], None),
+        (&fed_bulb(23, "1,0,0 RedstoneWire arms=West:Side\n"), &[], Some(58)),
+        (&fed_bulb(23, "1,0,0 RedstoneWire arms=East:Side\n"), &[58], None),
+        (
+            "profile CopperBulb=23\n0,-1,0 RedstoneWire\n0,0,0 CopperBulb\n0,1,0 RedstoneWire\n\
+             1,1,0 Lever powered=true\n",
+            &[58],
+            None,
+        ),
         // A pulse between two ticks is missed, though nothing shows of it.
         (
             "0,0,0 CopperBulb\n0,1,0 Lever support=0,-1,0\nswitch tick 3 0,1,0 on\nswitch tick 3 0,1,0 off\n",
@@ -299,6 +357,33 @@ fn what_the_game_does_too_gets_no_hint() {
         let found = numbers(table);
         assert!(none.iter().all(|number| !found.contains(number)), "{found:?}:\n{table}");
         assert!(instead.is_none_or(|number| found.contains(&number)), "{found:?}:\n{table}");
+    }
+}
+
+/// A bulb of this byte with a lever that is on, and a row more.
+fn fed_bulb(byte: u8, row: &str) -> String {
+    format!("profile CopperBulb={byte}\n0,0,0 CopperBulb\n0,1,0 Lever support=0,-1,0 powered=true\n{row}")
+}
+
+/// Of two bulbs the one that a lever reaches between two ticks: with a pulse, or with a gap.
+#[test]
+fn a_bulb_that_no_switch_powers_is_not_named() {
+    const BULBS: &str = "0,0,0 CopperBulb powered=false\n0,1,0 Lever support=0,-1,0 powered=true\n\
+                         9,0,0 CopperBulb\n";
+    for (switches, named) in [
+        (&[(3, "off"), (4, "on"), (4, "off")][..], true),
+        (&[(3, "off"), (3, "on")], true),
+        (&[(0, "off"), (0, "on")], true),
+        (&[(3, "off"), (5, "on")], true),
+        (&[(3, "off"), (3, "off")], false),
+        (&[(3, "on"), (3, "off")], false),
+        (&[(3, "on"), (3, "on")], false),
+    ] {
+        let lines = switches.iter().map(|(tick, set)| format!("switch tick {tick} 0,1,0 {set}\n"));
+        let text = BULBS.to_owned() + &lines.collect::<String>();
+        let hints = hints_of(&text);
+        let blocks = hints.iter().find(|hint| hint.number == 59).map(|hint| &hint.blocks[..]);
+        assert_eq!(blocks, named.then_some(&["bulb 0,0,0".to_owned()][..]), "{text}");
     }
 }
 

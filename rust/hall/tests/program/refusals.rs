@@ -125,7 +125,10 @@ fn a_bulb_without_its_byte_of_the_profile_says_what_to_do() {
         "{library} (write CopperBulb=7 into the line `profile`, or give a profile that has it with --profile)"
     );
     assert_refused(format!("profile Solid=31\n{ROWS}").as_bytes(), "3:", &sentence);
-    assert_refused(&packed, "", &format!("{sentence}{PACKED}"));
+    // A packed file has no line to write into.
+    let of_packed = format!("{library}, or give a profile that has the bulb's byte with --profile{PACKED}");
+    assert_refused(&packed, "", &of_packed);
+    assert!(![&sentence, &of_packed].iter().any(|sentence| sentence.contains(") (")));
     let without = file("bulb_without", "without.txt", "profile Solid=31\n");
     let done = hall_with(&["run", "-", "--profile", &without], ROWS.as_bytes());
     assert_eq!((done.status, done.err), (Some(2), format!("hall: standard input:2: {sentence}.\n")));

@@ -343,7 +343,7 @@ fn the_reason_says_what_a_bulb_may_have() {
     assert_eq!(
         message_of(bulb(), |input| input.profile.truncate(13)),
         "row 0 at 0,0,0: kind (byte 12) is 13; that is CopperBulb, and the profile has 13 bytes: give it a \
-         fourteenth, the bulb's, as BENCH_PROFILE_WITH_BULB has"
+         fourteenth, the bulb's, such as 7"
     );
     assert_eq!(
         message_of(bulb(), |input| input.profile[13] = 64),

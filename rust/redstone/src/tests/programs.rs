@@ -79,7 +79,7 @@ fn the_examples_in_rust_run() {
     let refusal = "refusal 5, misplaced: rows 0 and 1 are both at 0,1,0; each position may be there once";
     assert_eq!(rust_example("lamp"), format!("{LAMP}{refusal}\n"));
     let refusal = "refusal 4, bad row: row 0 at 0,0,0: kind (byte 12) is 13; that is CopperBulb, and the profile has 13 \
-                   bytes: give it a fourteenth, the bulb's, as BENCH_PROFILE_WITH_BULB has";
+                   bytes: give it a fourteenth, the bulb's, such as 7";
     assert_eq!(rust_example("bulb"), format!("{BULB}{refusal}\n"));
 }
 
