@@ -2,7 +2,7 @@
 -- and the fields with such a byte are good.
 -- Assumes nothing.
 use mathlib.Core.Path.{_≡_, refl, ap, sym, _∙_}
-use mathlib.Core.Bool.{Bool, true, false, not, _&&_, _||_, true≢false}
+use mathlib.Core.Bool.{Bool, true, false, not, _&&_, _||_, true≢false, and-assoc, and-false}
 use Prim.Native.Nat.{ℕ, _+_, _≤_, _<_}
 use native.Mathlib.Nat.{zero-add}
 use native.Mathlib.Omega.{arith}
@@ -77,28 +77,20 @@ everyField test =
     && (test Powered
     && (test Level && (test Delay && (test Support && (test Arms && (test Shape && (test Mode && (test Zero30 && test Zero31))))))))))
 
-and-assoc : (a b c : Bool) → ((a && b) && c) ≡ (a && (b && c))
-and-assoc true b c = refl
-and-assoc false b c = refl
-
-and-none : (a : Bool) → (a && false) ≡ false
-and-none true = refl
-and-none false = refl
-
 module _ (test : Field → Bool) where
   fails : (f : Field) → test f ≡ false → everyField test ≡ false
   fails Place e = rw e
-  fails Kind e = simp (e, and-none)
-  fails Facing e = simp (e, and-none)
-  fails Powered e = simp (e, and-none)
-  fails Level e = simp (e, and-none)
-  fails Delay e = simp (e, and-none)
-  fails Support e = simp (e, and-none)
-  fails Arms e = simp (e, and-none)
-  fails Shape e = simp (e, and-none)
-  fails Mode e = simp (e, and-none)
-  fails Zero30 e = simp (e, and-none)
-  fails Zero31 e = simp (e, and-none)
+  fails Kind e = simp (e, and-false)
+  fails Facing e = simp (e, and-false)
+  fails Powered e = simp (e, and-false)
+  fails Level e = simp (e, and-false)
+  fails Delay e = simp (e, and-false)
+  fails Support e = simp (e, and-false)
+  fails Arms e = simp (e, and-false)
+  fails Shape e = simp (e, and-false)
+  fails Mode e = simp (e, and-false)
+  fails Zero30 e = simp (e, and-false)
+  fails Zero31 e = simp (e, and-false)
 
   every-at : everyField test ≡ true → (f : Field) → test f ≡ true
   every-at h f = go (test f) refl

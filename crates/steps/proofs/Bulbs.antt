@@ -1,6 +1,6 @@
 -- Document 02, Change 4: the state of a row that is no bulb is document 01's, fresh, valid and over a tick. Assumes nothing.
 use mathlib.Core.Path.{_≡_, refl, ap, _∙_}
-use mathlib.Core.Bool.{Bool, true, false, cond, _&&_, _||_}
+use mathlib.Core.Bool.{Bool, true, false, cond, _&&_, _||_, and-assoc}
 use mathlib.Core.List.{_∷_}
 use Prim.Native.Nat.{ℕ, _+_}
 use lib.ListN.{getD, replicate}
@@ -33,10 +33,6 @@ goodRest01 r = allBelow (λ k. eqb (getD r (9 + k) 0) 0) 7
 abbrev pub goodState01 : Bytes → ℕ → Bytes → Bool
 goodState01 t i r =
     goodDevice (kindOf t i) (deviceOf r) && (goodQueue t i r && (goodLamp01 t i r && (goodTorch t i r && goodRest01 r)))
-
-and-assoc : (a b c : Bool) → ((a && b) && c) ≡ (a && (b && c))
-and-assoc true b c = refl
-and-assoc false b c = refl
 
 rest-01 : (r : Bytes) → (eqb (getD r 9 0) 0 && goodRest r) ≡ goodRest01 r
 rest-01 r = simp and-assoc
