@@ -8,7 +8,7 @@ use native.Mathlib.Omega.{arith}
 use lib.ListN.{length}
 use lib.Dec.{eqb, leb}
 use borrow.Author.Tests.{leb-true, le-leb}
-use Rattle.columns.specs.Column.{Bytes, Column}
+use Rattle.columns.specs.Column.{Bytes, Column, row}
 use Rattle.network.specs.Demand as Network
 use Rattle.blocks.specs.Kind.{oneOf}
 use Rattle.world.specs.Rows.{rows}
@@ -47,9 +47,9 @@ module _ (p t : Bytes) (d : Column) (limit signal weak strong : ℕ) where
 -- ---- the numbers
 
 module _ (p t : Bytes) (d : Column) where
-  devices-give : rows t ≤ 1024 → Gives (6 ∷ []) (checkDevices t d)
+  devices-give : rows t ≤ 1024 → Gives (6 ∷ 10 ∷ []) (checkDevices t d)
   unfolding checkDevices
-  devices-give few = values-give (eqb (length d) (rows t)) (isBadDevice t d) (rows t) few
+  devices-give few = values-give (eqb (length d) (rows t)) (isBadDevice t d) (row d) (rows t) few
 
   module _ (signal weak strong : ℕ) where
     pub call-gives : Gives ofCall (checkCall p t d signal weak strong)

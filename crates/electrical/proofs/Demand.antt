@@ -5,7 +5,7 @@
 use mathlib.Core.Path.{_≡_, refl}
 use mathlib.Core.Bool.{true, false}
 use Prim.Native.Nat.{ℕ, _/_, _≤_, _<_, max}
-use native.Mathlib.Nat.{le-trans}
+use native.Mathlib.Nat.{le-refl, le-trans}
 use native.Mathlib.Omega.{arith}
 use lib.ListN.{length}
 use borrow.Author.Tests.{le-leb}
@@ -28,9 +28,9 @@ use Rattle.refusals.proofs.Tells.{told-accepted, accepted-told, never-told}
 use Rattle.arms.specs.Arms.{armOf}
 use Rattle.emitted.specs.Emitted.{IsValid, emitted}
 use Rattle.edges.specs.Edges.{networkOf}
-use Rattle.electrical.specs.Answer.{roundsOf, settled, goodColumns, checkCall, checkSettle, ofCall, ofSettle, Passed, Settles, SettledTo, Unchanged}
+use Rattle.electrical.specs.Answer.{roundsOf, settled, goodColumns, checkCall, checkSettle, ofCall, ofSettle, Passed, Settles, SettledTo, AtMost15, Unchanged}
 use Rattle.electrical.specs.Join.{largerOf, Joined, Call, JoinedCalls}
-use Rattle.electrical.proofs.Emitted.{emitted-larger, emitted-byte}
+use Rattle.electrical.proofs.Emitted.{emitted-larger, emitted-capped}
 use Rattle.edges.proofs.Networks.{power-on-map}
 use Rattle.electrical.proofs.Devices.{valid-devices, devices-valid, is-larger, larger-devices}
 use Rattle.electrical.proofs.Answers.{accepted-passed, passed-accepted, call-gives, settle-gives, settling-tells}
@@ -179,6 +179,28 @@ module _ (p t : Bytes) (d : Column) where
   unfolding settled networkOf
   others-break = Network.others-break (networkOf p t) (emitted t d)
 
+-- ---- Document 02, Change 5: "The promise of the emitted level becomes at most 15 for every kind, and signals, weak and strong power inherit it"
+
+pub emitted-at-most-15 : (t : Bytes) (d : Column) → IsValid t d → (i : ℕ) → row (emitted t d) i ≤ maxSignal
+emitted-at-most-15 t d v = emitted-capped t d (valid-devices t d v .low)
+
+pub settled-at-most-15 : (p t : Bytes) (d : Column) → IsValid t d → Bounded maxSignal (settled p t d)
+unfolding settled
+settled-at-most-15 p t d v = Network.settled-bounded (networkOf p t) (emitted t d) maxSignal (le-refl maxSignal) (emitted-at-most-15 t d v)
+
+-- and so is every number of the three columns after a call of which a caller sees that it settled d
+pub settled-to-at-most-15 : {p t : Bytes} {d signal weak strong : Column} {r : ℕ} → IsValid t d → SettledTo p t d signal weak strong r
+    → AtMost15 signal weak strong
+settled-to-at-most-15 {p} {t} {d} v s =
+    let low = settled-at-most-15 p t d v in
+    record { signals = rw (s .signals) (low .signal); weaks = rw (s .weaks) (low .weak); strongs = rw (s .strongs) (low .strong) }
+
+-- such as settle, where it does not refuse
+pub settle-at-most-15 : {p t : Bytes} {d : Column} {limit : ℕ} {signal weak strong signal′ weak′ strong′ : Column} {r : ℕ}
+    → Settles p t d limit signal weak strong signal′ weak′ strong′ r → r < 65536 → AtMost15 signal′ weak′ strong′
+settle-at-most-15 {p} {t} {d} s h =
+    settled-to-at-most-15 (accepted-passed p t d _ _ _ _ (told-accepted (settle-tells s) h) .valid) (settles s h)
+
 -- ---- what the calls above need besides
 
 -- power reaches only rows of the map
@@ -201,11 +223,6 @@ module _ (p t : Bytes) (d : Column) where
   pub settled-capped : (i : ℕ) → i < rows t → isDust (kindOf t i) ≡ true → row (settled p t d .signal) i ≤ maxSignal
   unfolding settled networkOf
   settled-capped = Network.settled-capped (networkOf p t) (emitted t d)
-
-  -- every settled number is at most the largest device byte, or the cap
-  pub settled-bounded : (m : ℕ) → maxSignal ≤ m → ((i : ℕ) → row d i ≤ m) → Bounded m (settled p t d)
-  unfolding settled
-  settled-bounded m cap h = Network.settled-bounded (networkOf p t) (emitted t d) m cap (emitted-byte t d m cap h)
 
 -- emitted levels that differ by at most n settle to numbers that differ by at most n; where none is lower, no settled number is
 module _ (p t : Bytes) (a b : Column) where

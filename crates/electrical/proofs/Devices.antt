@@ -4,13 +4,14 @@ use mathlib.Core.Path.{_≡_, ap, sym, _∙_}
 use mathlib.Core.Logic.{_⊎_, inl, inr, ⊎-elim, by-cases}
 use mathlib.Core.Bool.{true, not}
 use Prim.Native.Nat.{ℕ, _≤_, _<_, max}
-use native.Mathlib.Nat.{max-eq-left, max-eq-right}
+use native.Mathlib.Nat.{max-eq-left, max-eq-right, max-le}
 use native.Mathlib.Decide.{decLe, decLt}
 use native.Mathlib.Omega.{arith}
 use lib.ListN.{length, List·getD-eq-default}
 use lib.Dec.{eqb}
 use borrow.Author.Tests.{eqb-true, eq-eqb, not-false}
 use Rattle.columns.specs.Column.{Bytes, Column, row, tabulate}
+use Rattle.columns.specs.Signal.{maxSignal}
 use Rattle.columns.proofs.Columns.{length-tabulate, row-tabulate}
 use Rattle.network.specs.Compare.{Larger, AtEveryRow₃}
 use Rattle.world.specs.Rows.{rows, kindOf}
@@ -22,17 +23,19 @@ use Rattle.electrical.specs.Join.{largerOf}
 pub record Devices (t : Bytes) (d : Column) : Type 0 where
   pub sized : length d ≡ rows t
   pub good : (i : ℕ) → i < rows t → goodDevice (kindOf t i) (row d i) ≡ true
+  pub low : (i : ℕ) → i < rows t → row d i ≤ maxSignal
 
 pub valid-devices : (t : Bytes) (d : Column) → checkDevices t d ≡ Accepted → Devices t d
 unfolding checkDevices
 valid-devices t d h =
-    let (sized, good) = passed-values (eqb (length d) (rows t)) (isBadDevice t d) (rows t) h in
-    record { sized = eqb-true _ _ sized; good = λ i l. not-false _ (good i l) }
+    let v = passed-values (eqb (length d) (rows t)) (isBadDevice t d) (row d) (rows t) h in
+    record { sized = eqb-true _ _ (v .of-size); good = λ i l. not-false _ (v .good i l); low = v .low }
 
 pub devices-valid : (t : Bytes) (d : Column) → Devices t d → checkDevices t d ≡ Accepted
 unfolding checkDevices
 devices-valid t d v =
-    values-pass (eqb (length d) (rows t)) (isBadDevice t d) (rows t) (eq-eqb _ _ (v .sized)) (λ i l. ap not (v .good i l))
+    values-pass (eqb (length d) (rows t)) (isBadDevice t d) (row d) (rows t)
+    (record { of-size = eq-eqb _ _ (v .sized); good = λ i l. ap not (v .good i l); low = v .low })
 
 -- ---- the row-wise larger of two
 
@@ -64,4 +67,5 @@ module _ (t : Bytes) {a b : Column} (va : Devices t a) (vb : Devices t b) where
         good = λ i l.
             rw (row-tabulate (length a) (λ i. max (row a i) (row b i)) i (rw (va .sized) l))
             (good-larger (kindOf t i) (row a i) (row b i) (va .good i l) (vb .good i l));
+        low = λ i l. rw (row-tabulate (length a) (λ i. max (row a i) (row b i)) i (rw (va .sized) l)) (max-le (va .low i l) (vb .low i l));
       }

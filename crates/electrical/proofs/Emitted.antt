@@ -1,14 +1,13 @@
--- Laws of the emitted levels: they rise with the device bytes, and fit a byte.
+-- Laws of the emitted levels: they rise with the device bytes, and are at most 15 where those are.
 -- Assumes nothing.
-use mathlib.Core.Path.{_≡_, ap, _∙_}
+use mathlib.Core.Path.{ap, _∙_}
 use mathlib.Core.Bool.{Bool, true, false, cond}
 use mathlib.Core.Logic.{by-cases}
-use Prim.Native.Nat.{ℕ, zero, suc, _≤_, zero-le}
-use native.Mathlib.Nat.{le-refl, le-trans, min-le-left}
+use Prim.Native.Nat.{ℕ, zero, suc, _≤_, _<_, zero-le}
+use native.Mathlib.Nat.{le-refl, min-le-left}
 use native.Mathlib.Decide.{decLt}
 use native.Mathlib.Omega.{arith}
 use lib.Dec.{eqb, eqb·suc-zero}
-use borrow.Author.Tests.{ne-eqb}
 use Rattle.columns.specs.Column.{Bytes, Column, row}
 use Rattle.columns.specs.Signal.{maxSignal}
 use Rattle.network.specs.Compare.{Larger, AtEveryRow₃}
@@ -45,25 +44,17 @@ either : (c : Bool) {x y m : ℕ} → x ≤ m → y ≤ m → cond c x y ≤ m
 either true g h = g
 either false g h = h
 
--- an emitted level is at most the cap, or what a comparator gives,
-level-given : (t : Bytes) (i b m : ℕ) → maxSignal ≤ m → cond (eqb (kindOf t i) Comparator) b 0 ≤ m → emittedLevel t i b ≤ m
+-- of a device byte that is not overdriven the emitted level is at most the cap, "for every kind",
+pub level-capped : (t : Bytes) (i b : ℕ) → b ≤ maxSignal → emittedLevel t i b ≤ maxSignal
 unfolding emittedLevel switchLevel
-level-given t i b m cap h =
-    either (eqb (kindOf t i) RedstoneBlock) cap
-    (either (isSwitch (kindOf t i)) (either (isPowered t i) (le-trans (min-le-left 15 _) cap) zero-le)
-    (either (isOnOff (kindOf t i)) (either (eqb b 0) zero-le cap) h))
+level-capped t i b h =
+    either (eqb (kindOf t i) RedstoneBlock) (le-refl maxSignal)
+    (either (isSwitch (kindOf t i)) (either (isPowered t i) (min-le-left 15 _) zero-le)
+    (either (isOnOff (kindOf t i)) (either (eqb b 0) zero-le (le-refl maxSignal)) (either (eqb (kindOf t i) Comparator) h zero-le)))
 
--- which is the device byte;
-pub level-byte : (t : Bytes) (i b m : ℕ) → maxSignal ≤ m → b ≤ m → emittedLevel t i b ≤ m
-level-byte t i b m cap h = level-given t i b m cap (either (eqb (kindOf t i) Comparator) h zero-le)
-
--- and so is a row of the column of them.
-pub emitted-byte : (t : Bytes) (d : Column) (m : ℕ) → maxSignal ≤ m → ((i : ℕ) → row d i ≤ m) → (i : ℕ) → row (emitted t d) i ≤ m
+-- and so is every row of the column of them.
+pub emitted-capped : (t : Bytes) (d : Column) → ((i : ℕ) → i < rows t → row d i ≤ maxSignal) → (i : ℕ) → row (emitted t d) i ≤ maxSignal
 unfolding emitted
-emitted-byte t d m cap h i =
-    by-cases (decLt i (rows t)) (λ l. rw (row-tabulate (rows t) _ i l) (level-byte t i (row d i) m cap (h i)))
+emitted-capped t d h i =
+    by-cases (decLt i (rows t)) (λ l. rw (row-tabulate (rows t) _ i l) (level-capped t i (row d i) (h i l)))
     (λ n. rw (row-past (rows t) (λ i. emittedLevel t i (row d i)) i (omega arith)) zero-le)
-
--- of any other kind it is at most the cap
-pub level-capped : (t : Bytes) (i b : ℕ) → ¬ (kindOf t i ≡ Comparator) → emittedLevel t i b ≤ maxSignal
-level-capped t i b n = level-given t i b maxSignal (le-refl maxSignal) (rw (ne-eqb (kindOf t i) Comparator n) zero-le)

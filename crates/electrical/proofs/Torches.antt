@@ -1,33 +1,29 @@
 -- Document 02, Change 3, over tables: what value 32 of the torch's byte does to settling. That the join rule and the bound of 17 hold with the
 -- value set or clear is in Demand.antt.
 -- Assumes nothing.
-use mathlib.Core.Path.{_≡_, refl, ap}
-use mathlib.Core.Logic.{by-cases, ⊎-elim}
-use mathlib.Core.Bool.{Bool, true, false, cond, _||_, false≢true, and-false, or-true}
-use Prim.Native.Nat.{ℕ, _≤_, _<_, max, zero-le}
-use native.Mathlib.Nat.{le-refl, le-antisymm}
-use native.Mathlib.Decide.{ℕ-discrete}
+use mathlib.Core.Path.{_≡_, ap}
+use mathlib.Core.Bool.{Bool, true, false, cond, _||_, or-true}
+use Prim.Native.Nat.{ℕ, _≤_, _<_, max}
+use native.Mathlib.Nat.{le-antisymm}
 use Rattle.columns.specs.Column.{Bytes, Column, row}
 use Rattle.columns.specs.Signal.{maxSignal}
 use Rattle.columns.proofs.Columns.{row-tabulate}
-use Rattle.columns.proofs.Truth as Truth
 use Rattle.network.specs.Levels.{arriving}
 use Rattle.network.specs.Settled as OfNetwork
 use Rattle.network.specs.Demand.{settled-strong}
-use Rattle.network.specs.Laws.Gather.{le-top, top-least, arriving-or}
-use Rattle.blocks.specs.Kind.{RedstoneTorch, Comparator}
+use Rattle.network.specs.Laws.Gather.{le-top, arriving-or}
+use Rattle.blocks.specs.Kind.{RedstoneTorch}
 use Rattle.blocks.specs.Profile.{torchChargesAbove}
 use Rattle.blocks.proofs.Values.{withoutValue}
 use Rattle.places.specs.Places.{above, samePos}
 use Rattle.world.specs.Rows.{rows, posOf, kindOf}
 use Rattle.traits.specs.Traits.{traits}
-use Rattle.emitted.specs.Emitted.{emittedLevel, emitted}
-use Rattle.edges.specs.Edges.{isSupportOf, outputsTo, isNextToRedstoneBlock, isOverTorch, emittedToStrong, networkOf}
+use Rattle.emitted.specs.Emitted.{IsValid, emittedLevel, emitted}
+use Rattle.edges.specs.Edges.{isOverTorch, emittedToStrong, networkOf}
 use Rattle.edges.proofs.Profiles.{withStrong}
 use Rattle.edges.proofs.Torches.{strong01, network01, overTorch, network-without-value, network-with-value, network-of-rest}
 use Rattle.electrical.specs.Answer.{roundsOf, settled, Settles}
-use Rattle.electrical.proofs.Emitted.{level-byte, level-capped}
-use Rattle.electrical.proofs.Demand.{settles}
+use Rattle.electrical.proofs.Demand.{settles, settled-at-most-15, settle-at-most-15}
 
 -- ---- "Without it the answer is the Rust's": the settled numbers and the rounds are those of document 01's network
 
@@ -73,25 +69,6 @@ module _ (t : Bytes) (d : Column) where
   unfolding emitted
   emits k l = row-tabulate (rows t) (λ k. emittedLevel t k (row d k)) k l
 
--- where no comparator whose output is row i gives more than 15, nothing gives it more as strong power
-module _ (p t : Bytes) (d : Column) (i : ℕ) (low : (k : ℕ) → kindOf t k ≡ Comparator → outputsTo t k i ≡ true → row d k ≤ maxSignal) where
-  -- of strong power's edges a comparator has its output alone
-  its-output : (k : ℕ) → kindOf t k ≡ Comparator → emittedToStrong p t k i ≡ true → outputsTo t k i ≡ true
-  unfolding emittedToStrong isSupportOf isNextToRedstoneBlock isOverTorch
-  its-output k e h =
-      let (_, some) = Truth.and-true (traits p t i .strong) _ (rw e at h) in
-      ⊎-elim (λ q. q) (λ q. absurd (false≢true (rw and-false at q))) (Truth.or-true (outputsTo t k i) _ some)
-
-  given-15 : (k : ℕ) → k < rows t → (b : Bool) → emittedToStrong p t k i ≡ b → cond b (row (emitted t d) k) 0 ≤ maxSignal
-  given-15 k l false h = zero-le
-  given-15 k l true h =
-      rw (emits t d k l)
-      (by-cases (ℕ-discrete (kindOf t k) Comparator) (λ e. level-byte t k (row d k) maxSignal (le-refl _) (low k e (its-output k e h))) (λ n. level-capped t k (row d k) n))
-
-  at-most-15 : arriving (rows t) (emittedToStrong p t) (row (emitted t d)) i ≤ maxSignal
-  unfolding arriving
-  at-most-15 = top-least (rows t) _ maxSignal (λ k l. given-15 k l (emittedToStrong p t k i) refl)
-
 module _ {p t : Bytes} {d : Column} {j i : ℕ} (value : torchChargesAbove p ≡ true) (o : OverLitTorch p t d j i) where
   reached : emittedToStrong p t j i ≡ true
   unfolding emittedToStrong isOverTorch
@@ -101,18 +78,16 @@ module _ {p t : Bytes} {d : Column} {j i : ℕ} (value : torchChargesAbove p ≡
   unfolding emittedLevel
   lit = rw (emits t d j (o .torch-inside), o .is-torch, o .is-lit)
 
-  -- at least 15, since a comparator may give more,
-  pub torch-charges : maxSignal ≤ row (settled p t d .strong) i
+  reaches : maxSignal ≤ row (settled p t d .strong) i
   unfolding arriving
-  torch-charges =
+  reaches =
       rw (arrives p t d i (o .inside))
       (rw (reached, lit) at (le-top (rows t) (λ k. cond (emittedToStrong p t k i) (row (emitted t d) k) 0) j (o .torch-inside)))
 
-  -- and 15 where no comparator whose output is the block gives more.
-  pub torch-charges-15 : ((k : ℕ) → kindOf t k ≡ Comparator → outputsTo t k i ≡ true → row d k ≤ maxSignal) → row (settled p t d .strong) i ≡ maxSignal
-  torch-charges-15 low = le-antisymm (rw (arrives p t d i (o .inside)) (at-most-15 p t d i low)) torch-charges
+  pub torch-charges : IsValid t d → row (settled p t d .strong) i ≡ maxSignal
+  torch-charges v = le-antisymm (settled-at-most-15 p t d v .strong i) reaches
 
-  -- At least 15 is also what settle writes, where it does not refuse.
+  -- and 15 is what settle writes, where it does not refuse
   pub torch-charges-written : {limit : ℕ} {signal weak strong signal′ weak′ strong′ : Column} {r : ℕ}
-      → Settles p t d limit signal weak strong signal′ weak′ strong′ r → r < 65536 → maxSignal ≤ row strong′ i
-  torch-charges-written s h = rw (settles s h .strongs) torch-charges
+      → Settles p t d limit signal weak strong signal′ weak′ strong′ r → r < 65536 → row strong′ i ≡ maxSignal
+  torch-charges-written s h = le-antisymm (settle-at-most-15 s h .strongs i) (rw (settles s h .strongs) reaches)

@@ -27,9 +27,9 @@ goodDevice k b = cond (isOnOff k) (leb b 1) (eqb k Comparator || eqb b 0)
 abbrev pub isBadDevice : Bytes → Column → ℕ → Bool
 isBadDevice t d i = not (goodDevice (kindOf t i) (row d i))
 
--- 6 bad state: "device column .. of wrong length or value"
+-- 6 bad state: "device column .. of wrong length or value"; 10 overdriven: "Device bytes above 15"
 unfoldable pub checkDevices : Bytes → Column → Checked
-checkDevices t d = checkValues (eqb (length d) (rows t)) (isBadDevice t d) (rows t)
+checkDevices t d = checkValues (eqb (length d) (rows t)) (isBadDevice t d) (row d) (rows t)
 
 -- "a device column of it is valid if none falls on the column"
 abbrev pub IsValid : Bytes → Column → Type 0

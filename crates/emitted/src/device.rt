@@ -36,7 +36,7 @@ fn first_bad_device(table: &[u8], devices: &[u8], rows: usize) -> Found
     Found::Nothing
 }
 
-// Refusal 6, over a table that is not crowded, so that the number of the row at fault fits.
+// Refusals 6 and 10, over a table that is not crowded, so that the number of the row at fault fits.
 fn check_column(table: &[u8], devices: &[u8]) -> Checked
     requires { ⌜ rowsOf (now table) ≤ 1024 ⌝ }
     ensures { λ r. ⌜ r ≡ checkDevices (now (table .entry)) (now (devices .entry)) ⌝ }
@@ -45,10 +45,11 @@ fn check_column(table: &[u8], devices: &[u8]) -> Checked
     if devices.len() != rows {
         return Checked::Refused { number: 6, row: 0 };
     }
-    refusals::refuse_at(6, first_bad_device(table, devices, rows), 0)
+    let bad = refusals::refuse_at(6, first_bad_device(table, devices, rows), 0);
+    refusals::or_else(bad, refusals::check_overdriven(devices, 1, rows))
 }
 
-// Refusals 1 to 6.
+// Refusals 1 to 6 and 10.
 pub fn check_devices(profile: &[u8], table: &[u8], devices: &[u8]) -> Checked
     ensures { λ r. ⌜ r ≡ orElse (checkInput (now (profile .entry)) (now (table .entry))) (checkDevices (now (table .entry)) (now (devices .entry))) ⌝ }
 {

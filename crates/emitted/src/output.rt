@@ -28,7 +28,7 @@ fn lit_level(device: u8) -> u8
     if device == 0 { 0 } else { Signal::MAX }
 }
 
-// The level that a row with this device byte emits. Only a comparator's may be above 15.
+// The level that a row with this device byte emits.
 pub fn component_output_level(table: &[u8], row: usize, device: u8) -> u8
     ensures { λ r. ⌜ r ≡ emittedLevel (now (table .entry)) row device ⌝ }
 {

@@ -1,10 +1,10 @@
--- Laws of a fresh row: its length, and that it is valid.
+-- Laws of a fresh row: its length, that it is valid, and that it is not overdriven.
 -- Assumes nothing.
 use mathlib.Core.Path.{_≡_, refl}
 use mathlib.Core.Logic.{by-cases}
 use mathlib.Core.Bool.{Bool, true, false, cond, _&&_, _||_}
-use Prim.Native.Nat.{ℕ, suc, _*_, _-_, _%_, _^_}
-use native.Mathlib.Nat.{pow-suc}
+use Prim.Native.Nat.{ℕ, suc, _*_, _-_, _%_, _^_, _≤_}
+use native.Mathlib.Nat.{le-refl, pow-suc}
 use native.Mathlib.Decide.{ℕ-discrete}
 use native.Mathlib.Omega.{arith}
 use lib.ListN.{length}
@@ -12,10 +12,12 @@ use lib.Dec.{eqb, leb, ltb}
 use lib.Pow.{pow-pos}
 use borrow.Author.Tests.{eq-eqb, ne-eqb, lt-ltb}
 use Rattle.columns.specs.Column.{Bytes, Column}
+use Rattle.columns.specs.Signal.{maxSignal}
 use Rattle.blocks.specs.Kind.{RedstoneTorch, Repeater, Comparator, RedstoneLamp, CopperBulb}
-use Rattle.world.specs.Rows.{kindOf, poweredOf, isPowered}
+use Rattle.world.specs.Rows.{byteOf, kindOf, poweredOf, isPowered, levelOr}
 use Rattle.emitted.specs.Emitted.{goodDevice}
-use Rattle.states.specs.Row.{delayOf, bitsSet, isCandidate, goodQueue, goodLight, goodTorch, goodHadPower, goodState}
+use Rattle.emitted.proofs.Devices.{other-low}
+use Rattle.states.specs.Row.{deviceOf, delayOf, bitsSet, isCandidate, goodQueue, goodLight, goodTorch, goodHadPower, goodState}
 use Rattle.levels.specs.Numbers.{hasPower, number}
 use Rattle.fresh.specs.Fresh.{freshDevice, freshQueue, freshLight, freshHadPower, freshRow}
 use Rattle.states.proofs.Powers.{delay-range}
@@ -35,6 +37,12 @@ one-or-none false = refl
 none-or-one : (b : Bool) → leb (cond b 0 1) 1 ≡ true
 none-or-one true = refl
 none-or-one false = refl
+
+-- a given level, or 15 or 0
+given-or : (given : Bool) (level : ℕ) (powered : Bool) → cond given level 0 ≤ maxSignal → cond given level (cond powered maxSignal 0) ≤ maxSignal
+given-or true level powered h = h
+given-or false level true h = le-refl maxSignal
+given-or false level false h = h
 
 -- a queue of m + 1 bits, filled
 filled-queue : (b : Bool) (m : ℕ) → (ltb (cond b 1 0 * (2 ^ suc m - 1)) (2 ^ suc m) && eqb (cond b 1 0 * (2 ^ suc m - 1) % 2) (cond b 1 0)) ≡ true
@@ -72,6 +80,17 @@ module _ (t : Bytes) (i : ℕ) where
       (λ l. by-cases (ℕ-discrete (kindOf t i) RedstoneTorch) (λ k. rw k (none-or-one (eqb (poweredOf t i) 1)))
       (λ m. by-cases (ℕ-discrete (kindOf t i) Comparator) (λ k. rw k)
       (λ n. rw (ne-eqb (kindOf t i) Repeater l, ne-eqb (kindOf t i) RedstoneTorch m, ne-eqb (kindOf t i) Comparator n))))
+
+  -- and at most 15, where no comparator's given level is above that
+  pub fresh-low : (kindOf t i ≡ Comparator → levelOr t i 0 ≤ maxSignal) → freshDevice t i ≤ maxSignal
+  unfolding freshDevice
+  fresh-low low =
+      by-cases (ℕ-discrete (kindOf t i) Comparator) (λ k. rw k (given-or (eqb (byteOf t i 15) 1) (byteOf t i 16) (isPowered t i) (low k)))
+      (λ n. omega (arith, other-low (kindOf t i) (freshDevice t i) n fresh-device))
+
+  pub fresh-row-low : (kindOf t i ≡ Comparator → levelOr t i 0 ≤ maxSignal) → (weak strong : Column) → deviceOf (freshRow t weak strong i) ≤ maxSignal
+  unfolding freshRow
+  fresh-row-low low weak strong = fresh-low low
 
   bits : suc (delayOf t i - 1) ≡ delayOf t i
   bits = omega (arith, delay-range t i)

@@ -16,7 +16,7 @@ use Rattle.columns.proofs.First.{all-at}
 use Rattle.columns.proofs.Truth.{and-true}
 use Rattle.places.specs.declared.Pos.{Pos}
 use Rattle.places.proofs.Steps.{InRange}
-use Rattle.world.specs.Rows.{byteOf, wordOf, posOf}
+use Rattle.world.specs.Rows.{byteOf, wordOf, posOf, levelOr}
 use Rattle.layout.specs.Good.{inRange, goodPlace, goodValue, goodSupport, goodArms, goodRow}
 
 -- ---- the fields
@@ -187,6 +187,10 @@ module _ (changed : ℕ → Bool) (t u : Bytes) (i j : ℕ) (agree : (b : ℕ) �
   -- its position is the same where no byte of that is changed
   pub place-again : isTouched changed Place ≡ false → posOf u j ≡ posOf t i
   place-again h = same-place t u i j (untouched Place h)
+
+  -- and so is its power level
+  pub level-again : isTouched changed Level ≡ false → (other : ℕ) → levelOr u j other ≡ levelOr t i other
+  level-again h other = let same = untouched Level h in rw (same 0 (omega arith), same 1 (omega arith)) refl
 
   -- it is good where its changed fields are
   pub good-again : goodTouched changed u j ≡ true → goodRow t i ≡ true → goodRow u j ≡ true

@@ -160,6 +160,7 @@ redrawn-changes p t w =
       agree = λ i b l e. redrawn-keeps p t w i b (l, e);
       places = λ i. refl;
       kinds = λ i. refl;
+      levels = λ i. refl;
       good = λ i l g. rw (good-arms i l (good-field t i g ArmsField));
     }
   where

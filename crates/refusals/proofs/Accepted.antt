@@ -2,15 +2,16 @@
 -- Assumes nothing.
 use mathlib.Core.Path.{_≡_, refl, ap, sym}
 use mathlib.Core.Logic.{by-cases}
-use mathlib.Core.Bool.{true, not}
+use mathlib.Core.Bool.{true, false, not}
 use Prim.Native.Nat.{ℕ, zero, suc, _+_, _-_, _%_, _<_}
-use native.Mathlib.Decide.{decLt}
+use native.Mathlib.Decide.{decLt, ℕ-discrete}
 use native.Mathlib.Omega.{arith}
 use lib.ListN.{length}
 use lib.Dec.{eqb, leb, ltb}
-use borrow.Author.Tests.{eqb-true, eq-eqb, leb-true, le-leb, ltb-true, lt-ltb, not-false}
+use borrow.Author.Tests.{eqb-true, eq-eqb, ne-eqb, leb-true, le-leb, ltb-true, ltb-false, le-ltb, lt-ltb, not-false}
 use Rattle.columns.specs.declared.Found.the-variants.{At}
 use Rattle.columns.specs.Column.{Bytes}
+use Rattle.blocks.specs.Kind.{Comparator}
 use Rattle.places.specs.declared.Pos.{Pos}
 use Rattle.places.specs.Places.{before}
 use Rattle.places.proofs.Order.{before-irrefl, before-trans, before-asym}
@@ -22,7 +23,7 @@ use Rattle.world.proofs.Finding.{find-first}
 use Rattle.refusals.specs.declared.Checked.the-variants.{Accepted}
 use Rattle.layout.specs.Good.{goodProfile, goodRow}
 use Rattle.refusals.specs.Accepted.{Table}
-use Rattle.refusals.specs.Check.{isBad, isMisplaced, checkRows, checkTable, checkInput, IsAccepted}
+use Rattle.refusals.specs.Check.{isBad, isMisplaced, isOverdriven, checkRows, checkTable, checkInput, IsAccepted}
 use Rattle.refusals.proofs.Passed.{passed-unless, unless-passes, passed-rows, rows-pass}
 use Rattle.layout.proofs.Fields.{Place, good-field, good-range}
 
@@ -38,7 +39,8 @@ accepted-rows kinds t h =
     let (a, g) = passed-unless 2 (eqb (length t % 32) 0) _ h in
     let (b, f) = passed-unless 3 (leb (rows t) 1024) _ g in
     let (good, e) = passed-rows 4 0 (isBad kinds t) (rows t) _ f in
-    let (ordered, _) = passed-rows 5 1 (isMisplaced t) (rows t - 1) _ e in
+    let (ordered, d) = passed-rows 5 1 (isMisplaced t) (rows t - 1) _ e in
+    let (low, _) = passed-rows 10 0 (isOverdriven t) (rows t) _ d in
     let whole : length t % 32 ≡ 0 = eqb-true _ _ a in
     let both : (i : ℕ) → i < rows t → (goodRow t i ≡ true) × (ltb (kindOf t i) kinds ≡ true) = λ i l. and-true _ _ (not-false _ (good i l)) in (
       record {
@@ -46,6 +48,7 @@ accepted-rows kinds t h =
         few = leb-true _ _ b;
         good = λ i l. both i l .0;
         ordered = λ i l. not-false _ (ordered i (omega arith));
+        low = λ i l k. ltb-false _ _ (rw k at (low i l));
       },
       λ i l. ltb-true _ _ (both i l .1),
     )
@@ -60,7 +63,12 @@ table-accepted kinds t a k =
     unless-passes 2 (eqb (length t % 32) 0) _ (eq-eqb (length t % 32) 0 (omega (arith, a .whole)))
     (unless-passes 3 (leb (rows t) 1024) _ (le-leb _ 1024 (a .few))
     (rows-pass 4 0 (isBad kinds t) (rows t) _ (λ i l. rw (a .good i l, lt-ltb _ kinds (k i l)))
-    (rows-pass 5 1 (isMisplaced t) (rows t - 1) Accepted (λ i l. ap not (a .ordered i (omega arith))) refl)))
+    (rows-pass 5 1 (isMisplaced t) (rows t - 1) _ (λ i l. ap not (a .ordered i (omega arith)))
+    (rows-pass 10 0 (isOverdriven t) (rows t) Accepted not-driven refl))))
+  where
+    not-driven : (i : ℕ) → i < rows t → isOverdriven t i ≡ false
+    not-driven i l =
+        by-cases (ℕ-discrete (kindOf t i) Comparator) (λ k. rw (k, le-ltb _ _ (a .low i l k))) (λ n. rw (ne-eqb (kindOf t i) Comparator n))
 
 -- of a call with the profile
 pub accepted-kinds : (p t : Bytes) → checkInput p t ≡ Accepted → OfKinds (length p) t

@@ -20,7 +20,7 @@ use Rattle.world.specs.Rows.{rows}
 use Rattle.refusals.specs.declared.Checked.{Checked}
 use Rattle.refusals.specs.declared.Checked.the-variants.{Accepted, Refused}
 use Rattle.layout.specs.Good.{goodProfile}
-use Rattle.refusals.specs.Check.{refuseUnless, refuseAt, orElse, also, isBad, isMisplaced, checkRows, checkTable, checkInput, checkValues}
+use Rattle.refusals.specs.Check.{refuseUnless, refuseAt, orElse, also, isBad, isMisplaced, isOverdriven, isOverdrivenDevice, checkRows, checkTable, checkInput, checkValues}
 use Rattle.refusals.specs.Answers.{Gives, ofInput}
 use Rattle.refusals.proofs.Passed.{never}
 
@@ -86,8 +86,12 @@ input-gives p t =
     unless-gives 3 refl (leb (rows t) 1024) _ λ few.
     let rows-few : rows t ≤ 1024 = leb-true _ _ few in
     first-gives 4 refl (isBad (length p) t) (rows t) 0 _ (omega arith)
-    (first-gives 5 refl (isMisplaced t) (rows t - 1) 1 _ (omega arith) accepted-gives)
+    (first-gives 5 refl (isMisplaced t) (rows t - 1) 1 _ (omega arith)
+    (first-gives 10 refl (isOverdriven t) (rows t) 0 _ (omega arith) accepted-gives))
 
 -- those of a device column or a state, of n rows
-pub values-give : (sized : Bool) (isBadValue : ℕ → Bool) (n : ℕ) → n ≤ 1024 → Gives (6 ∷ []) (checkValues sized isBadValue n)
-values-give sized isBadValue n few = unless-gives 6 refl sized _ (λ _. first-gives 6 refl isBadValue n 0 _ (omega arith) accepted-gives)
+pub values-give : (sized : Bool) (isBadValue : ℕ → Bool) (device : ℕ → ℕ) (n : ℕ) → n ≤ 1024
+    → Gives (6 ∷ 10 ∷ []) (checkValues sized isBadValue device n)
+values-give sized isBadValue device n few =
+    unless-gives 6 refl sized _ λ _.
+    first-gives 6 refl isBadValue n 0 _ (omega arith) (first-gives 10 refl (isOverdrivenDevice device) n 0 _ (omega arith) accepted-gives)

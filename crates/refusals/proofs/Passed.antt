@@ -4,13 +4,15 @@ use mathlib.Core.Path.{_≡_, refl}
 use mathlib.Core.Bool.{Bool, true, false}
 use Prim.Native.Nat.{ℕ, _+_, _≤_, _<_}
 use native.Mathlib.Omega.{arith}
+use borrow.Author.Tests.{ltb-false, le-ltb}
 use Rattle.columns.specs.declared.Found.{Found}
 use Rattle.columns.specs.declared.Found.the-variants.{At, Nothing}
 use Rattle.refusals.specs.declared.Checked.{Checked}
 use Rattle.refusals.specs.declared.Checked.the-variants.{Accepted, Refused}
 use Rattle.columns.specs.First.{firstFrom}
+use Rattle.columns.specs.Signal.{maxSignal}
 use Rattle.columns.proofs.First.{first-at, first-none, none-first}
-use Rattle.refusals.specs.Check.{refuseUnless, refuseAt, RowFits, orElse, also, checkValues}
+use Rattle.refusals.specs.Check.{refuseUnless, refuseAt, RowFits, orElse, also, isOverdrivenDevice, checkValues}
 
 pub never : {A : Type 0} {n i : ℕ} → Refused n i ≡ Accepted → A
 never e = let z : _≡_ {A = ℕ} 0 1 = cc in absurd (omega arith)
@@ -47,16 +49,26 @@ row-fits f k d h = go (firstFrom f k 0) refl
     go (At i) e = omega (arith, first-at f k 0 i e .inside)
     go Nothing e = tt
 
--- ---- a column or a state: its length, and its value at every row below k
+-- ---- a column or a state: its length, its value at every row below k, and its device byte there
 
-module _ (sized : Bool) (f : ℕ → Bool) (k : ℕ) where
-  pub passed-values : checkValues sized f k ≡ Accepted → (sized ≡ true) × ((i : ℕ) → i < k → f i ≡ false)
+module _ (sized : Bool) (f : ℕ → Bool) (device : ℕ → ℕ) (k : ℕ) where
+  -- of a column or a state that passes
+  pub record Values : Type 0 where
+    pub of-size : sized ≡ true
+    pub good : (i : ℕ) → i < k → f i ≡ false
+    pub low : (i : ℕ) → i < k → device i ≤ maxSignal
+
+  pub passed-values : checkValues sized f device k ≡ Accepted → Values
   passed-values h =
       let (a, g) = passed-unless 6 sized _ h in
-      (a, passed-rows 6 0 f k Accepted g .0)
+      let (b, e) = passed-rows 6 0 f k _ g in
+      let (c, _) = passed-rows 10 0 (isOverdrivenDevice device) k Accepted e in
+      record { of-size = a; good = b; low = λ i l. ltb-false _ _ (c i l) }
 
-  pub values-pass : sized ≡ true → ((i : ℕ) → i < k → f i ≡ false) → checkValues sized f k ≡ Accepted
-  values-pass h g = unless-passes 6 sized _ h (rows-pass 6 0 f k Accepted g refl)
+  pub values-pass : Values → checkValues sized f device k ≡ Accepted
+  values-pass v =
+      unless-passes 6 sized _ (v .of-size)
+      (rows-pass 6 0 f k _ (v .good) (rows-pass 10 0 (isOverdrivenDevice device) k Accepted (λ i l. le-ltb _ _ (v .low i l)) refl))
 
 -- ---- tests in a row
 

@@ -18,7 +18,7 @@ pub record Gives (numbers : List ℕ) (c : Checked) : Type 0 where
 
 -- of the refusal table, those that fall on a profile and a table
 abbrev pub ofInput : List ℕ
-ofInput = 1 ∷ 2 ∷ 3 ∷ 4 ∷ 5 ∷ []
+ofInput = 1 ∷ 2 ∷ 3 ∷ 4 ∷ 5 ∷ 10 ∷ []
 
 -- ---- what an answer says
 

@@ -1,4 +1,5 @@
--- Which refusal falls on a call, and what the call answers and writes then.
+-- Which refusal falls on a call, and what the call answers and writes then. What stands in quotation marks is document 01's, or document 02's, Changes
+-- 4 and 5.
 -- Assumes nothing.
 use mathlib.Core.Path.{_≡_}
 use mathlib.Core.Bool.{Bool, true, false, not, _&&_}
@@ -9,8 +10,10 @@ use Rattle.columns.specs.declared.Found.{Found}
 use Rattle.columns.specs.declared.Found.the-variants.{At, Nothing}
 use Rattle.columns.specs.Column.{Bytes}
 use Rattle.columns.specs.First.{firstFrom}
+use Rattle.columns.specs.Signal.{maxSignal}
+use Rattle.blocks.specs.Kind.{Comparator}
 use Rattle.places.specs.Places.{before}
-use Rattle.world.specs.Rows.{rows, posOf, kindOf}
+use Rattle.world.specs.Rows.{rows, posOf, kindOf, levelOr}
 use Rattle.refusals.specs.declared.Checked.{Checked}
 use Rattle.refusals.specs.declared.Checked.the-variants.{Accepted, Refused}
 use Rattle.layout.specs.Good.{goodProfile, goodRow}
@@ -52,10 +55,15 @@ isBad kinds t i = not (goodRow t i && ltb (kindOf t i) kinds)
 abbrev pub isMisplaced : Bytes → ℕ → Bool
 isMisplaced t i = not (before (posOf t i) (posOf t (i + 1)))
 
--- "4 over all rows before 5"; "The row returned is the first offending"
+-- 10 overdriven: "comparator rows with a given level above 15"
+abbrev pub isOverdriven : Bytes → ℕ → Bool
+isOverdriven t i = eqb (kindOf t i) Comparator && ltb maxSignal (levelOr t i 0)
+
+-- "4 over all rows before 5"; 10 "tested on rows just after 5", "row as for 4": "The row returned is the first offending"
 unfoldable pub checkRows : ℕ → Bytes → Checked
 checkRows kinds t =
-    refuseAt 4 0 (firstFrom (isBad kinds t) (rows t) 0) (refuseAt 5 1 (firstFrom (isMisplaced t) (rows t - 1) 0) Accepted)
+    refuseAt 4 0 (firstFrom (isBad kinds t) (rows t) 0)
+    (refuseAt 5 1 (firstFrom (isMisplaced t) (rows t - 1) 0) (refuseAt 10 0 (firstFrom (isOverdriven t) (rows t) 0) Accepted))
 
 -- 2 ragged: "table length not a multiple of 32"; 3 crowded: "more than 1,024 rows"
 unfoldable pub checkTable : ℕ → Bytes → Checked
@@ -69,9 +77,16 @@ checkInput p t = refuseUnless 1 (goodProfile p) (checkTable (length p) t)
 abbrev pub IsAccepted : Bytes → Bytes → Type 0
 IsAccepted p t = checkInput p t ≡ Accepted
 
--- 6 bad state, of a device column or a state: "wrong length or value"; "in 6 length before value", of n rows
-abbrev pub checkValues : Bool → (ℕ → Bool) → ℕ → Checked
-checkValues sized isBadValue n = refuseUnless 6 sized (refuseAt 6 0 (firstFrom isBadValue n 0) Accepted)
+-- 10 overdriven, of a device byte for each row: "Device bytes above 15 are turned away"
+abbrev pub isOverdrivenDevice : (ℕ → ℕ) → ℕ → Bool
+isOverdrivenDevice device i = ltb maxSignal (device i)
+
+-- 6 bad state, of a device column or a state of n rows: "wrong length or value"; "in 6 length before value"; 10 "on a column or state just
+-- after 6"
+abbrev pub checkValues : Bool → (ℕ → Bool) → (ℕ → ℕ) → ℕ → Checked
+checkValues sized isBadValue device n =
+    refuseUnless 6 sized
+    (refuseAt 6 0 (firstFrom isBadValue n 0) (refuseAt 10 0 (firstFrom (isOverdrivenDevice device) n 0) Accepted))
 
 -- ---- what a call answers and writes
 

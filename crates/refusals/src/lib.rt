@@ -3,10 +3,11 @@ mod scan;
 
 use columns::Found;
 ghost use mathlib.Core.Path.{_≡_};
-ghost use Prim.Native.Nat.{_≤_};
-ghost use lib.ListN.{length};
+ghost use Prim.Native.Nat.{_*_, _≤_};
+ghost use lib.ListN.{length, getD};
+ghost use Rattle.columns.specs.First.{firstFrom};
 ghost use Rattle.refusals.specs.declared.Checked.the-variants as Checked;
-ghost use Rattle.refusals.specs.Check.{refuseUnless, refuseAt, RowFits, orElse, also, checkRows, checkTable, checkInput, answerOf};
+ghost use Rattle.refusals.specs.Check.{refuseUnless, refuseAt, RowFits, orElse, also, isOverdrivenDevice, checkRows, checkTable, checkInput, answerOf};
 
 // Whether the inputs are accepted, or the number of the refusal that falls on them and the row at fault.
 pub enum Checked {
@@ -55,7 +56,7 @@ pub fn also(checked: Checked, number: u8, passed: bool) -> Checked
     or_else(checked, refuse_unless(number, passed))
 }
 
-// Refusals 4 and 5, over the rows of a table that is not crowded, so that the number of a row fits.
+// Refusals 4, 5 and 10, over the rows of a table that is not crowded, so that the number of a row fits.
 fn check_rows(kinds: usize, table: &[u8]) -> Checked
     requires { ⌜ length (now table) ≤ 32768 ⌝ }
     ensures { λ r. ⌜ r ≡ checkRows kinds (now (table .entry)) ⌝ }
@@ -63,10 +64,11 @@ fn check_rows(kinds: usize, table: &[u8]) -> Checked
     let rows = world::row::rows(table);
     let bad = refuse_at(4, scan::first_bad(kinds, table, rows), 0);
     let misplaced = refuse_at(5, scan::first_misplaced(table, rows), 1);
-    or_else(bad, misplaced)
+    let overdriven = refuse_at(10, scan::first_overdriven(table, rows), 0);
+    or_else(bad, or_else(misplaced, overdriven))
 }
 
-// Refusals 2 to 5, where a profile has bytes for this many kinds.
+// Refusals 2 to 5 and 10, where a profile has bytes for this many kinds.
 pub fn check_table(kinds: usize, table: &[u8]) -> Checked
     ensures { λ r. ⌜ r ≡ checkTable kinds (now (table .entry)) ⌝ }
 {
@@ -79,7 +81,7 @@ pub fn check_table(kinds: usize, table: &[u8]) -> Checked
     check_rows(kinds, table)
 }
 
-// Refusals 1 to 5.
+// Refusals 1 to 5 and 10.
 pub fn check_input(profile: &[u8], table: &[u8]) -> Checked
     ensures { λ r. ⌜ r ≡ checkInput (now (profile .entry)) (now (table .entry)) ⌝ }
 {
@@ -87,6 +89,14 @@ pub fn check_input(profile: &[u8], table: &[u8]) -> Checked
         return check_table(profile.len(), table);
     }
     Checked::Refused { number: 1, row: 0 }
+}
+
+// Refusal 10 of a device column or a state, with so many bytes for each of at most 1,024 rows, the device byte first.
+pub fn check_overdriven(bytes: &[u8], width: usize, rows: usize) -> Checked
+    requires { ⌜ (length (now bytes) ≡ rows * width) × (rows ≤ 1024) ⌝ }
+    ensures { λ r. ⌜ r ≡ refuseAt 10 0 (firstFrom (isOverdrivenDevice (λ i. getD (now (bytes .entry)) (i * width) 0)) rows 0) Checked.Accepted ⌝ }
+{
+    refuse_at(10, scan::first_overdriven_device(bytes, width, rows), 0)
 }
 
 // The number that a call answers: 65,536 times the refusal's number plus the row, or the result of a call that is not refused.

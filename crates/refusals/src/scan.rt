@@ -1,12 +1,17 @@
 // The first row at fault.
+use blocks::kind;
+use columns::byte_at;
 use columns::Found;
 use layout::good_row;
+use levels::signal::Signal;
 use world::row::kind_of;
+use world::row::level_or;
 use world::row::pos_of;
 ghost use mathlib.Core.Path.{_≡_};
-ghost use Prim.Native.Nat.{_-_, _<_};
+ghost use Prim.Native.Nat.{_*_, _-_};
+ghost use lib.ListN.{length, getD};
 ghost use Rattle.columns.specs.First.{firstFrom};
-ghost use Rattle.refusals.specs.Check.{isBad, isMisplaced};
+ghost use Rattle.refusals.specs.Check.{isBad, isMisplaced, isOverdriven, isOverdrivenDevice};
 
 pub fn first_bad(kinds: usize, table: &[u8], rows: usize) -> Found
     ensures { λ r. ⌜ r ≡ firstFrom (isBad kinds (now (table .entry))) rows 0 ⌝ }
@@ -33,6 +38,35 @@ pub fn first_misplaced(table: &[u8], rows: usize) -> Found
         } else {
             return Found::At(i - 1);
         }
+    }
+    Found::Nothing
+}
+
+// The first comparator whose given level is above 15.
+pub fn first_overdriven(table: &[u8], rows: usize) -> Found
+    ensures { λ r. ⌜ r ≡ firstFrom (isOverdriven (now (table .entry))) rows 0 ⌝ }
+{
+    let mut i = 0;
+    while i < rows {
+        if (kind_of(table, i) == kind::COMPARATOR) & (Signal::MAX < level_or(table, i, 0)) {
+            return Found::At(i);
+        }
+        i += 1;
+    }
+    Found::Nothing
+}
+
+// The first row whose device byte, the first of so many bytes of the row, is above 15.
+pub fn first_overdriven_device(bytes: &[u8], width: usize, rows: usize) -> Found
+    requires { ⌜ length (now bytes) ≡ rows * width ⌝ }
+    ensures { λ r. ⌜ r ≡ firstFrom (isOverdrivenDevice (λ i. getD (now (bytes .entry)) (i * width) 0)) rows 0 ⌝ }
+{
+    let mut i = 0;
+    while i < rows {
+        if Signal::MAX < byte_at(bytes, i * width) {
+            return Found::At(i);
+        }
+        i += 1;
     }
     Found::Nothing
 }

@@ -28,7 +28,7 @@ use Rattle.report.specs.Text.{textOf, profileBytes, profileOf, tableOf, 
 module _ (p t : Bytes) where
   call-accepted : checkInput p t ≡ Accepted → checkCall p t (freshDevices t) (rows t) (rows t) (rows t) ≡ Accepted
   unfolding checkCall
-  call-accepted h = rw (h, fresh-devices-valid t, eq-eqb (rows t) (rows t) refl)
+  call-accepted h = rw (h, fresh-devices-valid t (accepted-input p t h .1), eq-eqb (rows t) (rows t) refl)
 
   pub run-accepted : checkInput p t ≡ Accepted → checkRun p t ≡ Accepted
   unfolding checkRun

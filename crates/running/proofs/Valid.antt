@@ -2,41 +2,50 @@
 -- Assumes nothing.
 use mathlib.Core.Path.{_≡_, ap}
 use mathlib.Core.Bool.{true, not}
-use Prim.Native.Nat.{ℕ, zero, suc, _*_, _<_}
+use Prim.Native.Nat.{ℕ, zero, suc, _*_, _≤_, _<_}
+use native.Mathlib.Nat.{max-le}
 use lib.ListN.{length}
 use lib.Dec.{eqb}
 use borrow.Author.Tests.{eqb-true, eq-eqb, not-false}
 use Rattle.columns.specs.Column.{Bytes}
+use Rattle.columns.specs.Signal.{maxSignal}
 use Rattle.columns.proofs.Columns.{length-tabulate, row-tabulate}
 use Rattle.columns.proofs.Parts.{length-concatRows, part-concatRows}
 use Rattle.world.specs.Rows.{rows}
+use Rattle.refusals.specs.Accepted.{Table}
 use Rattle.refusals.proofs.Passed.{passed-values, values-pass}
 use Rattle.emitted.specs.Emitted.{IsValid}
 use Rattle.electrical.specs.Answer.{settled}
 use Rattle.electrical.proofs.Devices.{devices-valid}
+use Rattle.electrical.proofs.Demand.{settled-at-most-15}
 use Rattle.states.specs.Row.{deviceOf, goodState}
 use Rattle.fresh.specs.Fresh.{freshDevice, freshRow}
 use Rattle.states.proofs.Parts.{parts, whole}
-use Rattle.fresh.proofs.FreshRows.{length-fresh, fresh-device, fresh-good}
+use Rattle.comparator.specs.Step.{electricalLevel}
+use Rattle.fresh.proofs.FreshRows.{length-fresh, fresh-device, fresh-low, fresh-row-low, fresh-good}
+use Rattle.steps.proofs.Rows.{light-device}
 use Rattle.steps.proofs.Valid.{device-good, light-good}
-use Rattle.updates.specs.State.{sixteen, devicesOf, isBadState, checkState, IsValidState, freshDevices, freshState}
+use Rattle.steps.proofs.Levels.{device-low}
+use Rattle.updates.specs.State.{sixteen, deviceIn, devicesOf, isBadState, checkState, IsValidState, freshDevices, freshState}
 use Rattle.updates.specs.Tick.{numbersOf, settledOf, setDevices, tick, ticks}
 use Rattle.running.proofs.States.{row-length, length-set-devices, length-tick, next, device-row, tick-row}
 
 pub record Stated (t st : Bytes) : Type 0 where
   pub sized : length st ≡ rows t * 16
   pub good : (i : ℕ) → i < rows t → goodState t i (sixteen st i) ≡ true
+  pub low : (i : ℕ) → i < rows t → deviceOf (sixteen st i) ≤ maxSignal
 
 pub valid-state : (t st : Bytes) → IsValidState t st → Stated t st
 unfolding checkState
 valid-state t st h =
-    let (sized, good) = passed-values (eqb (length st) (rows t * 16)) (isBadState t st) (rows t) h in
-    record { sized = eqb-true _ _ sized; good = λ i l. not-false _ (good i l) }
+    let v = passed-values (eqb (length st) (rows t * 16)) (isBadState t st) (deviceIn st) (rows t) h in
+    record { sized = eqb-true _ _ (v .of-size); good = λ i l. not-false _ (v .good i l); low = v .low }
 
 pub state-valid : (t st : Bytes) → Stated t st → IsValidState t st
 unfolding checkState
 state-valid t st v =
-    values-pass (eqb (length st) (rows t * 16)) (isBadState t st) (rows t) (eq-eqb _ _ (v .sized)) (λ i l. ap not (v .good i l))
+    values-pass (eqb (length st) (rows t * 16)) (isBadState t st) (deviceIn st) (rows t)
+    (record { of-size = eq-eqb _ _ (v .sized); good = λ i l. ap not (v .good i l); low = v .low })
 
 -- ---- the devices of a valid state, and of a fresh one
 
@@ -47,16 +56,18 @@ devices-of-valid t st h =
     devices-valid t (devicesOf t st)
     (record {
       sized = length-tabulate (rows t) 0 _;
-      good = λ i l. rw (row-tabulate (rows t) (λ i. deviceOf (sixteen st i)) i l) (parts t i (sixteen st i) (v .good i l) .device);
+      good = λ i l. rw (row-tabulate (rows t) (deviceIn st) i l) (parts t i (sixteen st i) (v .good i l) .device);
+      low = λ i l. rw (row-tabulate (rows t) (deviceIn st) i l) (v .low i l);
     })
 
-pub fresh-devices-valid : (t : Bytes) → IsValid t (freshDevices t)
+pub fresh-devices-valid : (t : Bytes) → Table t → IsValid t (freshDevices t)
 unfolding freshDevices
-fresh-devices-valid t =
+fresh-devices-valid t a =
     devices-valid t (freshDevices t)
     (record {
       sized = length-tabulate (rows t) 0 _;
       good = λ i l. rw (row-tabulate (rows t) (freshDevice t) i l) (fresh-device t i);
+      low = λ i l. rw (row-tabulate (rows t) (freshDevice t) i l) (fresh-low t i (a .low i l));
     })
 
 -- ---- a tick keeps a valid state valid
@@ -64,6 +75,13 @@ fresh-devices-valid t =
 module _ (p t st : Bytes) (h : IsValidState t st) where
   old : Stated t st
   old = valid-state t st h
+
+  -- no number that it settles to is above 15
+  level-low : (j : ℕ) → electricalLevel (numbersOf (settledOf p t st)) j ≤ maxSignal
+  unfolding settledOf
+  level-low j =
+      let s = settled-at-most-15 p t (devicesOf t st) (devices-of-valid t st h) in
+      max-le (s .signal j) (max-le (s .weak j) (s .strong j))
 
   -- once its devices are set
   pub set-devices-valid : IsValidState t (setDevices p t st)
@@ -75,6 +93,10 @@ module _ (p t st : Bytes) (h : IsValidState t st) where
             let r = sixteen st i in
             rw (device-row p t st (old .sized) i l)
             (whole t i _ (device-good p t (devicesOf t st) (numbersOf (settledOf p t st)) i r (row-length t st (old .sized) i l) (parts t i r (old .good i l))));
+        low = λ i l.
+            let r = sixteen st i in
+            rw (device-row p t st (old .sized) i l)
+            (device-low t (numbersOf (settledOf p t st)) level-low i p (devicesOf t st) r (row-length t st (old .sized) i l) (parts t i r (old .good i l)));
       })
 
 module _ (p t st : Bytes) (h : IsValidState t st) where
@@ -92,6 +114,9 @@ module _ (p t st : Bytes) (h : IsValidState t st) where
             let r = sixteen (setDevices p t st) i in
             rw (tick-row p t st long i l)
             (whole t i _ (light-good t (next p t st .weak) (next p t st .strong) i r (row-length t (setDevices p t st) (half .sized) i l) (parts t i r (half .good i l))));
+        low = λ i l.
+            let r = sixteen (setDevices p t st) i in
+            rw (tick-row p t st long i l, light-device t (next p t st .weak) (next p t st .strong) i r) (half .low i l);
       })
 
 pub ticks-valid : (n : ℕ) (p t st : Bytes) → IsValidState t st → IsValidState t (ticks n p t st)
@@ -101,13 +126,14 @@ ticks-valid (suc n) p t st h = ticks-valid n p t (tick p t st) (tick-valid p t s
 
 -- ---- the fresh state is valid
 
-pub fresh-valid : (p t : Bytes) → IsValidState t (freshState p t)
+pub fresh-valid : (p t : Bytes) → Table t → IsValidState t (freshState p t)
 unfolding freshState
-fresh-valid p t =
+fresh-valid p t a =
     let s = settled p t (freshDevices t) in
     let wide : (i : ℕ) → i < rows t → length (freshRow t (s .weak) (s .strong) i) ≡ 16 = λ i l. length-fresh t (s .weak) (s .strong) i in
     state-valid t (freshState p t)
     (record {
       sized = length-concatRows 16 (freshRow t (s .weak) (s .strong)) (rows t) wide;
       good = λ i l. rw (part-concatRows 16 (freshRow t (s .weak) (s .strong)) (rows t) wide i l) (fresh-good t i (s .weak) (s .strong));
+      low = λ i l. rw (part-concatRows 16 (freshRow t (s .weak) (s .strong)) (rows t) wide i l) (fresh-row-low t i (a .low i l) (s .weak) (s .strong));
     })

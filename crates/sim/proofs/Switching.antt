@@ -25,7 +25,7 @@ module _ (t : Bytes) (q : Pos) (power : ℕ) where
       let v = valid-devices t d h in
       let n : rows (switched t q power) ≡ rows t = same-rows (switched-alike t q power) in
       devices-valid (switched t q power) d
-      (record { sized = v .sized ∙ sym n; good = λ i l. rw (same-kind (switched-alike t q power) i) (v .good i (rw n at l)) })
+      (record { sized = v .sized ∙ sym n; good = λ i l. rw (same-kind (switched-alike t q power) i) (v .good i (rw n at l)); low = λ i l. v .low i (rw n at l) })
 
   -- a row's state is valid by its kind and its delay alone
   switched-good : (i : ℕ) (r : Bytes) → goodState (switched t q power) i r ≡ goodState t i r
@@ -39,4 +39,4 @@ module _ (t : Bytes) (q : Pos) (power : ℕ) where
       let v = valid-state t st h in
       let n : rows (switched t q power) ≡ rows t = same-rows (switched-alike t q power) in
       state-valid (switched t q power) st
-      (record { sized = v .sized ∙ sym (ap (λ k. k * 16) n); good = λ i l. switched-good i (sixteen st i) ∙ v .good i (rw n at l) })
+      (record { sized = v .sized ∙ sym (ap (λ k. k * 16) n); good = λ i l. switched-good i (sixteen st i) ∙ v .good i (rw n at l); low = λ i l. v .low i (rw n at l) })

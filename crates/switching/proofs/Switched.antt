@@ -83,6 +83,7 @@ module _ (t : Bytes) (q : Pos) (power : ℕ) where
         agree = λ i b l e. switched-other i b l (eqb-false b 14 e);
         places = λ i. refl;
         kinds = λ i. refl;
+        levels = λ i. refl;
         good = λ i l h. rw (le-leb _ 2 (switched-power i (leb-true _ 2 (good-field t i h Powered))));
       }
 

@@ -19,16 +19,16 @@ use Rattle.refusals.proofs.Tells.{tells-also}
 use Rattle.switching.specs.Switch.{switched}
 use Rattle.electrical.specs.Answer.{goodColumns, ofCall, SettledTo, Unchanged}
 use Rattle.electrical.proofs.Answers.{settling-tells}
-use Rattle.updates.specs.State.{devicesOf, isBadState, checkState, freshDevices, freshState}
+use Rattle.updates.specs.State.{deviceIn, devicesOf, isBadState, checkState, freshDevices, freshState}
 use Rattle.updates.specs.Tick.{ticks}
 use Rattle.updates.specs.Calls.{checkFresh, checkStep, checkTick, Fresh, Ticks, Switches}
 
 -- ---- the numbers
 
 module _ (p t st : Bytes) where
-  state-gives : rows t ≤ 1024 → Gives (6 ∷ []) (checkState t st)
+  state-gives : rows t ≤ 1024 → Gives (6 ∷ 10 ∷ []) (checkState t st)
   unfolding checkState
-  state-gives few = values-give (eqb (length st) (rows t * 16)) (isBadState t st) (rows t) few
+  state-gives few = values-give (eqb (length st) (rows t * 16)) (isBadState t st) (deviceIn st) (rows t) few
 
   module _ (signal weak strong : ℕ) where
     pub fresh-gives : (state : ℕ) → Gives (ofInput ++ 7 ∷ []) (checkFresh p t state signal weak strong)

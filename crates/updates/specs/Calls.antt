@@ -17,7 +17,7 @@ use Rattle.updates.specs.Tick.{ticks}
 
 -- ---- fresh
 
--- 1 to 5, and 7: "an output column, or fresh's state, not one entry per row"
+-- 1 to 5, 10, and 7: "an output column, or fresh's state, not one entry per row"
 unfoldable pub checkFresh : Bytes → Bytes → ℕ → ℕ → ℕ → ℕ → Checked
 checkFresh p t state signal weak strong = also (checkInput p t) 7 (eqb state (rows t * 16) && goodColumns t signal weak strong)
 
@@ -28,7 +28,7 @@ pub record Fresh (p t st st′ : Bytes) (signal weak strong signal′ weak′ st
       Columns (checkFresh p t (length st) (length signal) (length weak) (length strong)) (settled p t (freshDevices t))
       signal weak strong signal′ weak′ strong′
 
--- ---- tick and switch: refusals 1 to 7 of a call with a state
+-- ---- tick and switch: refusals 1 to 7 and 10 of a call with a state
 
 unfoldable pub checkStep : Bytes → Bytes → Bytes → ℕ → ℕ → ℕ → Checked
 checkStep p t st signal weak strong = orElse (checkInput p t) (also (checkState t st) 7 (goodColumns t signal weak strong))

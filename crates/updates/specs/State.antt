@@ -18,18 +18,22 @@ use Rattle.fresh.specs.Fresh.{freshDevice, freshRow}
 abbrev pub sixteen : Bytes → ℕ → Bytes
 sixteen st i = part 16 st i
 
+-- the device byte of row i
+abbrev pub deviceIn : Bytes → ℕ → ℕ
+deviceIn st i = deviceOf (sixteen st i)
+
 -- the device column of a state
 unfoldable pub devicesOf : Bytes → Bytes → Column
-devicesOf t st = tabulate (rows t) (λ i. deviceOf (sixteen st i))
+devicesOf t st = tabulate (rows t) (deviceIn st)
 
 -- ---- valid states
 
 abbrev pub isBadState : Bytes → Bytes → ℕ → Bool
 isBadState t st i = not (goodState t i (sixteen st i))
 
--- 6 bad state: "state of wrong length or value"
+-- 6 bad state: "state of wrong length or value"; 10 overdriven: "Device bytes above 15"
 unfoldable pub checkState : Bytes → Bytes → Checked
-checkState t st = checkValues (eqb (length st) (rows t * 16)) (isBadState t st) (rows t)
+checkState t st = checkValues (eqb (length st) (rows t * 16)) (isBadState t st) (deviceIn st) (rows t)
 
 -- no refusal falls on the state
 abbrev pub IsValidState : Bytes → Bytes → Type 0

@@ -30,7 +30,7 @@ fn first_bad_state(table: &[u8], state: &[u8], rows: usize) -> Found
     Found::Nothing
 }
 
-// Refusal 6, of a table that is not crowded: the row at fault fits its number.
+// Refusals 6 and 10, of a table that is not crowded: the row at fault fits its number.
 fn check_state(table: &[u8], state: &[u8]) -> Checked
     requires { ⌜ rows (now table) ≤ 1024 ⌝ }
     ensures { λ r. ⌜ r ≡ checkState (now (table .entry)) (now (state .entry)) ⌝ }
@@ -39,10 +39,11 @@ fn check_state(table: &[u8], state: &[u8]) -> Checked
     if state.len() != rows * 16 {
         return Checked::Refused { number: 6, row: 0 };
     }
-    refusals::refuse_at(6, first_bad_state(table, state, rows), 0)
+    let bad = refusals::refuse_at(6, first_bad_state(table, state, rows), 0);
+    refusals::or_else(bad, refusals::check_overdriven(state, 16, rows))
 }
 
-// Refusals 1 to 7 of a call with a state, and output columns of these lengths.
+// Refusals 1 to 7 and 10 of a call with a state, and output columns of these lengths.
 pub fn check_step(
     profile: &[u8],
     table: &[u8],
@@ -81,7 +82,7 @@ pub fn check_tick(
     refusals::also(checked, 9, ticks <= 4294967295 - tick)
 }
 
-// Refusals 1 to 5 and 7 of fresh, with a state and output columns of these lengths.
+// Refusals 1 to 5, 7 and 10 of fresh, with a state and output columns of these lengths.
 pub fn check_fresh(
     profile: &[u8],
     table: &[u8],

@@ -21,14 +21,25 @@ first-misplaced-requires c κs = search needs
 refuse-at-requires-2 : tie.Need-refuse-at-requires-2
 refuse-at-requires-2 c κs = rw (c .first-misplaced .ensures) (row-fits _ _ 1 (omega arith))
 
+first-overdriven-requires : tie.Need-first-overdriven-requires
+first-overdriven-requires c κs = search needs
+
+refuse-at-requires-3 : tie.Need-refuse-at-requires-3
+refuse-at-requires-3 c κs = rw (c .first-overdriven .ensures) (row-fits _ _ 0 (omega arith))
+
 or-else-requires : tie.Need-or-else-requires
 or-else-requires c κs = search needs
+
+or-else-requires-2 : tie.Need-or-else-requires-2
+or-else-requires-2 c κs = search needs
 
 returns : tie.Need-returns
 unfolding checkRows
 returns c =
-    let bad = c .before .before .before in
-    rw (← bad .before .before .rows .ensures, ← bad .before .first-bad .ensures, ← c .before .before .first-misplaced .ensures, ← at-else 4 0, ← bad .refuse-at .ensures, ← c .before .refuse-at2 .ensures) (c .or-else .ensures)
+    let driven = c .before .before in
+    let misplaced = driven .before .before in
+    let bad = misplaced .before .before in
+    rw (← bad .before .before .rows .ensures, ← bad .before .first-bad .ensures, ← misplaced .before .first-misplaced .ensures, ← driven .before .first-overdriven .ensures, ← at-else 4 0, ← at-else 5 1, ← bad .refuse-at .ensures, ← misplaced .refuse-at2 .ensures, ← driven .refuse-at3 .ensures, ← c .before .or-else .ensures) (c .or-else2 .ensures)
 
 pub check-rows-spec : {M : Type 1} → statement M
 check-rows-spec =
@@ -39,5 +50,8 @@ check-rows-spec =
     refuse-at-requires
     first-misplaced-requires
     refuse-at-requires-2
+    first-overdriven-requires
+    refuse-at-requires-3
     or-else-requires
+    or-else-requires-2
     returns)

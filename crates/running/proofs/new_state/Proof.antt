@@ -1,5 +1,6 @@
 -- `running::new_state` meets its contract. Assumes nothing.
 use mathlib.Core.Path.{refl}
+use Rattle.refusals.proofs.Accepted.{accepted-input}
 use Rattle.running.proofs.Running.{lengths-kept}
 use Rattle.running.proofs.Valid.{fresh-devices-valid}
 use Rattle.updates.specs.State.{freshState}
@@ -15,7 +16,7 @@ settle-requires c κs =
     let after = c .before .before .before .before .before .before in
     let s = after .before .before .before .before .before .before .before .before .before in
     let filled = after .fill-fresh-devices in
-    (s .pre .0, rw (filled .ensures) (fresh-devices-valid _), lengths-kept (s .pre .2) (filled .kept .1 .0) refl refl refl)
+    (s .pre .0, rw (filled .ensures) (fresh-devices-valid _ (accepted-input _ _ (s .pre .0) .1)), lengths-kept (s .pre .2) (filled .kept .1 .0) refl refl refl)
 
 fill-fresh-requires : tie.Need-fill-fresh-requires
 fill-fresh-requires c κs = search needs

@@ -1,0 +1,2 @@
+-- Laws of device bytes.
+pub mod Devices

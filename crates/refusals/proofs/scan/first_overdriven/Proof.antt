@@ -1,0 +1,63 @@
+-- `refusals::scan::first_overdriven` meets its contract. The loop's invariant: the answer is that of the search from row i on. Assumes nothing.
+use borrow.Author.Needs.{needs}
+use mathlib.Core.Path.{_≡_, sym, _∙_}
+use mathlib.Core.Bool.{true, false}
+use Prim.Native.Nat.{_-_, _≤_}
+use native.Mathlib.Nat.{sub-zero}
+use native.Mathlib.Omega.{arith}
+use Rattle.columns.specs.First.{firstFrom}
+use Rattle.columns.proofs.First.{scan-hit, scan-miss, scan-over}
+use Rattle.refusals.specs.Check.{isOverdriven}
+use Rattle.refusals.proofs.scan.first_overdriven.Statement.{statement}
+use Rattle.refusals.proofs.scan.first_overdriven.Tie as tie
+
+abbrev Inv-loop : tie.InvT-loop
+Inv-loop table rows i₀ i = (i ≤ rows) × (firstFrom (isOverdriven table) rows 0 ≡ firstFrom (isOverdriven table) (rows - i) i)
+
+abbrev μ-loop : tie.MeasureT-loop
+μ-loop table rows i₀ i = rows - i
+
+loop-holds : tie.Need-loop-holds Inv-loop μ-loop
+loop-holds c = (omega arith, rw sub-zero)
+
+kind-of-requires : tie.Need-kind-of-requires Inv-loop μ-loop
+kind-of-requires c κs = search needs
+
+level-or-requires : tie.Need-level-or-requires Inv-loop μ-loop
+level-or-requires c κs = search needs
+
+returns : tie.Need-returns Inv-loop μ-loop
+returns c =
+    let l = c .before .before .before .before in
+    let e : isOverdriven (l .before .before .args .table .now) (l .loop .i) ≡ true = rw (← c .before .before .kind-of .ensures, ← c .before .level-or .ensures) (c .if1 .taken) in
+    sym (l .loop .inv .1 ∙ scan-hit _ _ _ (omega arith) e)
+
+add-i : tie.Need-add-i Inv-loop μ-loop
+add-i c = omega arith
+
+loop-less : tie.Need-loop-less Inv-loop μ-loop
+loop-less c = omega arith
+
+loop-again : tie.Need-loop-again Inv-loop μ-loop
+loop-again c =
+    let l = c .before .before .before .before in
+    let e : isOverdriven (l .before .before .args .table .now) (l .loop .i) ≡ false = rw (← c .before .before .kind-of .ensures, ← c .before .level-or .ensures) (c .if1 .left) in
+    (omega arith, l .loop .inv .1 ∙ scan-miss _ _ _ (omega arith) e)
+
+returns-2 : tie.Need-returns-2 Inv-loop μ-loop
+returns-2 c = sym (c .before .loop .inv .1 ∙ scan-over _ _ _ (omega arith))
+
+pub first-overdriven-spec : {M : Type 1} → statement M
+first-overdriven-spec =
+    tie.close
+    (tie.spec
+    Inv-loop
+    μ-loop
+    loop-holds
+    kind-of-requires
+    level-or-requires
+    returns
+    add-i
+    loop-less
+    loop-again
+    returns-2)
