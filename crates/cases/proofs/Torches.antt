@@ -3,7 +3,7 @@
 use mathlib.Core.Path.{_≡_, refl}
 use mathlib.Core.Bool.{false}
 use mathlib.Core.List.{List, [], _∷_, _++_}
-use Prim.Native.Nat.{ℕ, _≤_}
+use Prim.Native.Nat.{ℕ}
 use native.Mathlib.Omega.{arith}
 use lib.ListN.{set}
 use lib.Dec.{T}
@@ -17,6 +17,7 @@ use Rattle.world.specs.Rows.{rows}
 use Rattle.layout.specs.Good.{goodProfile}
 use Rattle.layout.proofs.Profiles.{goodProfile01, reach-63, past-63}
 use Rattle.refusals.specs.Check.{answerOf, checkInput}
+use Rattle.emitted.specs.Emitted.{IsValid}
 use Rattle.electrical.specs.Answer.{roundsOf, settled}
 use Rattle.electrical.proofs.Torches.{OverLitTorch, torch-charges}
 use Rattle.states.specs.Row.{deviceOf}
@@ -184,9 +185,13 @@ is-over : OverLitTorch valued underSolid (freshDevices underSolid) 0 1
 unfolding computing valued with torch underSolid
 is-over = record { torch-inside = omega arith; inside = omega arith; is-torch = refl; is-lit = refl; is-above = refl; receives = refl }
 
-charged : 15 ≤ row (settled valued underSolid (freshDevices underSolid) .strong) 1
+is-valid : IsValid underSolid (freshDevices underSolid)
+unfolding computing torch underSolid
+is-valid = refl
+
+charged : row (settled valued underSolid (freshDevices underSolid) .strong) 1 ≡ 15
 unfolding computing valued with
-charged = torch-charges refl is-over
+charged = torch-charges refl is-over is-valid
 
 -- `reach-63` and `past-63`, of profiles that meet their hypotheses
 reached : goodProfile (with RedstoneTorch 63) ≡ goodProfile01 (withoutValue (with RedstoneTorch 63))

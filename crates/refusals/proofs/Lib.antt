@@ -5,3 +5,4 @@ pub mod Again
 pub mod Gives
 pub mod Tells
 pub mod Bulbs
+pub mod Overdriven

@@ -1,7 +1,7 @@
 // The first row at fault.
 use blocks::kind;
-use columns::byte_at;
 use columns::Found;
+use columns::byte_at;
 use layout::good_row;
 use levels::signal::Signal;
 use world::row::kind_of;

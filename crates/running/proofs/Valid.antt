@@ -4,17 +4,22 @@ use mathlib.Core.Path.{_≡_, ap}
 use mathlib.Core.Bool.{true, not}
 use Prim.Native.Nat.{ℕ, zero, suc, _*_, _≤_, _<_}
 use native.Mathlib.Nat.{max-le}
+use native.Mathlib.Omega.{arith}
 use lib.ListN.{length}
 use lib.Dec.{eqb}
-use borrow.Author.Tests.{eqb-true, eq-eqb, not-false}
+use borrow.Author.Tests.{eqb-true, eq-eqb, ltb-true, not-false}
 use Rattle.columns.specs.Column.{Bytes}
 use Rattle.columns.specs.Signal.{maxSignal}
 use Rattle.columns.proofs.Columns.{length-tabulate, row-tabulate}
 use Rattle.columns.proofs.Parts.{length-concatRows, part-concatRows}
-use Rattle.world.specs.Rows.{rows}
+use Rattle.blocks.specs.Kind.{Comparator}
+use Rattle.world.specs.Rows.{rows, kindOf}
+use Rattle.refusals.specs.declared.Checked.the-variants.{Refused}
 use Rattle.refusals.specs.Accepted.{Table}
 use Rattle.refusals.proofs.Passed.{passed-values, values-pass}
+use Rattle.refusals.proofs.Overdriven.{values-given-overdriven}
 use Rattle.emitted.specs.Emitted.{IsValid}
+use Rattle.emitted.proofs.Devices.{above-15}
 use Rattle.electrical.specs.Answer.{settled}
 use Rattle.electrical.proofs.Devices.{devices-valid}
 use Rattle.electrical.proofs.Demand.{settled-at-most-15}
@@ -46,6 +51,15 @@ unfolding checkState
 state-valid t st v =
     values-pass (eqb (length st) (rows t * 16)) (isBadState t st) (deviceIn st) (rows t)
     (record { of-size = eq-eqb _ _ (v .sized); good = λ i l. ap not (v .good i l); low = v .low })
+
+-- 10 is given of a state for a comparator's byte
+pub overdriven-state : (t st : Bytes) (i : ℕ) → checkState t st ≡ Refused 10 i → (kindOf t i ≡ Comparator) × (maxSignal < deviceIn st i)
+unfolding checkState
+overdriven-state t st i h =
+    let (_, good, first) = values-given-overdriven (eqb (length st) (rows t * 16)) (isBadState t st) (deviceIn st) (rows t) i h in
+    let above : maxSignal < deviceIn st i = ltb-true _ _ (first .holds) in
+    let valid = parts t i (sixteen st i) (not-false _ (good i (omega (arith, first .inside)))) in
+    (above-15 (kindOf t i) (deviceIn st i) (valid .device) above, above)
 
 -- ---- the devices of a valid state, and of a fresh one
 
