@@ -31,7 +31,7 @@ settled p t d = networkSettled (networkOf p t) (emitted t d)
 abbrev pub goodColumns : Bytes → ℕ → ℕ → ℕ → Bool
 goodColumns t signal weak strong = eqb signal (rows t) && (eqb weak (rows t) && eqb strong (rows t))
 
--- 1 to 5, 10, 6, 10 and 7
+-- 1 to 5, 10 on the rows, 6, 10 on the column, and 7
 unfoldable pub checkCall : Bytes → Bytes → Column → ℕ → ℕ → ℕ → Checked
 checkCall p t d signal weak strong = orElse (checkInput p t) (also (checkDevices t d) 7 (goodColumns t signal weak strong))
 

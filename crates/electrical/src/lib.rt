@@ -12,7 +12,7 @@ pub fn good_columns(table: &[u8], signal: usize, weak: usize, strong: usize) -> 
     (signal == rows) & ((weak == rows) & (strong == rows))
 }
 
-// Refusals 1 to 7, of output columns of these lengths.
+// Refusals 1 to 7 and 10, of output columns of these lengths.
 pub fn check_call(
     profile: &[u8],
     table: &[u8],

@@ -31,7 +31,7 @@ lacksSupport p t i = needsSupport (kindOf t i) && not (isSupported p t i)
 unfoldable pub supportIssues : Bytes → Bytes → List ℕ
 supportIssues p t = indicesFrom (lacksSupport p t) (rows t) 0
 
--- 1 to 5, and 7: "an output column .. not one entry per row", of the column's length
+-- 1 to 5, 10, and 7: "an output column .. not one entry per row", of the column's length
 unfoldable pub checkSupports : Bytes → Bytes → ℕ → Checked
 checkSupports p t entries = also (checkInput p t) 7 (eqb entries (rows t))
 

@@ -55,7 +55,7 @@ fn list_issues(profile: &[u8], table: &[u8], column: &mut [u16]) -> usize
     count
 }
 
-// Refusals 1 to 5, and 7 for a column of this many entries.
+// Refusals 1 to 5 and 10, and 7 for a column of this many entries.
 fn check_supports(profile: &[u8], table: &[u8], entries: usize) -> Checked
     ensures { λ r. ⌜ r ≡ checkSupports (now (profile .entry)) (now (table .entry)) entries ⌝ }
 {
