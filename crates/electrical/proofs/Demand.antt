@@ -1,4 +1,4 @@
--- Demand 3, over tables, in the order of its sentences, which stand in quotation marks. A theorem that asks for no accepted table and no valid
+-- Demand 3, over tables, in the order of its sentences, which stand in quotation marks; and after them document 02, Change 5. A theorem that asks for no accepted table and no valid
 -- column holds of every table and every column. The profile p is taken as given, with value 32 of the torch's byte or without, of 13 bytes or 14,
 -- and a table with bulbs or without: nothing here asks which. `Settles` is what the editor's call `redstone_settle` ensures of its buffers and its answer.
 -- Assumes nothing.
@@ -19,18 +19,18 @@ use Rattle.network.specs.Demand as Network
 use Rattle.blocks.specs.Kind.{isDust}
 use Rattle.world.specs.Rows.{rows, kindOf}
 use Rattle.traits.specs.Traits.{traits, conducts}
-use Rattle.refusals.specs.declared.Checked.{Checked}
 use Rattle.refusals.specs.declared.Checked.the-variants.{Accepted, Refused}
-use Rattle.refusals.specs.Check.{orElse, IsAccepted}
+use Rattle.refusals.specs.Check.{IsAccepted}
 use Rattle.refusals.specs.Answers.{Gives, Tells}
+use Rattle.refusals.proofs.Passed.{or-accepted}
 use Rattle.refusals.proofs.Gives.{not-given}
 use Rattle.refusals.proofs.Tells.{told-accepted, accepted-told, never-told}
 use Rattle.arms.specs.Arms.{armOf}
-use Rattle.emitted.specs.Emitted.{IsValid, emitted}
+use Rattle.emitted.specs.Emitted.{IsValid, emittedLevel, emitted}
 use Rattle.edges.specs.Edges.{networkOf}
 use Rattle.electrical.specs.Answer.{roundsOf, settled, goodColumns, checkCall, checkSettle, ofCall, ofSettle, Passed, Settles, SettledTo, AtMost15, Unchanged}
 use Rattle.electrical.specs.Join.{largerOf, Joined, Call, JoinedCalls}
-use Rattle.electrical.proofs.Emitted.{emitted-larger, emitted-capped}
+use Rattle.electrical.proofs.Emitted.{emitted-larger, level-capped, emitted-capped}
 use Rattle.edges.proofs.Networks.{power-on-map}
 use Rattle.electrical.proofs.Devices.{valid-devices, devices-valid, is-larger, larger-devices}
 use Rattle.electrical.proofs.Answers.{accepted-passed, passed-accepted, call-gives, settle-gives, settling-tells}
@@ -127,10 +127,6 @@ module _ (p t : Bytes) (d : Column) where
 
 -- ---- "so settle with a limit from 17 up never calls it unsettled"
 
-or-accepted : (c : Checked) → orElse c Accepted ≡ c
-or-accepted Accepted = refl
-or-accepted (Refused n i) = refl
-
 module _ (p t : Bytes) (d : Column) (limit : ℕ) (h : 17 ≤ limit) (signal weak strong : ℕ) where
   -- the test of the limit changes nothing
   pub never-unsettled : checkSettle p t d limit signal weak strong ≡ checkCall p t d signal weak strong
@@ -181,14 +177,20 @@ module _ (p t : Bytes) (d : Column) where
 
 -- ---- Document 02, Change 5: "The promise of the emitted level becomes at most 15 for every kind, and signals, weak and strong power inherit it"
 
+-- of a row with its device byte,
+pub emits-at-most-15 : (t : Bytes) (d : Column) → IsValid t d → (i : ℕ) → i < rows t → emittedLevel t i (row d i) ≤ maxSignal
+emits-at-most-15 t d v i l = level-capped t i (row d i) (valid-devices t d v .low i l)
+
+-- and of every row of the column,
 pub emitted-at-most-15 : (t : Bytes) (d : Column) → IsValid t d → (i : ℕ) → row (emitted t d) i ≤ maxSignal
 emitted-at-most-15 t d v = emitted-capped t d (valid-devices t d v .low)
 
+-- so that what settles is, too,
 pub settled-at-most-15 : (p t : Bytes) (d : Column) → IsValid t d → Bounded maxSignal (settled p t d)
 unfolding settled
 settled-at-most-15 p t d v = Network.settled-bounded (networkOf p t) (emitted t d) maxSignal (le-refl maxSignal) (emitted-at-most-15 t d v)
 
--- and so is every number of the three columns after a call of which a caller sees that it settled d
+-- and so is every number of three columns that hold what d settles to
 pub settled-to-at-most-15 : {p t : Bytes} {d signal weak strong : Column} {r : ℕ} → IsValid t d → SettledTo p t d signal weak strong r
     → AtMost15 signal weak strong
 settled-to-at-most-15 {p} {t} {d} v s =

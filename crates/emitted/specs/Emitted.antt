@@ -1,4 +1,5 @@
--- Device columns, and the levels that the rows of a table emit with one.
+-- Device columns, and the levels that the rows of a table emit with one. What stands in quotation marks is document 01's or, of number 10, document
+-- 02's, Change 5.
 -- Assumes nothing.
 use mathlib.Core.Path.{_≡_}
 use mathlib.Core.Bool.{Bool, cond, not, _||_}
@@ -20,7 +21,7 @@ isOnOff k = oneOf (RedstoneTorch ∷ Repeater ∷ []) k
 
 -- ---- valid device columns
 
--- "repeater powered or torch lit 0/1, comparator 0-255, other kinds 0", of the kind k and the byte b
+-- "repeater powered or torch lit 0/1, comparator 0-255, other kinds 0", of the kind k and the byte b; above 15 a comparator's is number 10, below
 unfoldable pub goodDevice : ℕ → ℕ → Bool
 goodDevice k b = cond (isOnOff k) (leb b 1) (eqb k Comparator || eqb b 0)
 
@@ -42,7 +43,7 @@ unfoldable pub switchLevel : Bytes → ℕ → ℕ
 switchLevel t i = cond (isPowered t i) (min maxSignal (levelOr t i maxSignal)) 0
 
 -- of row i, whose device byte is b: "redstone block 15; lever, button or plate ..; lit torch or powered repeater 15; comparator
--- its byte, not capped; else 0"
+-- its byte, not capped; else 0". With a valid column it is "at most 15 for every kind": `emitted-at-most-15`
 unfoldable pub emittedLevel : Bytes → ℕ → ℕ → ℕ
 emittedLevel t i b =
     cond (eqb (kindOf t i) RedstoneBlock) maxSignal

@@ -1,4 +1,4 @@
--- Laws of a fresh row: its length, that it is valid, and that it is not overdriven.
+-- Laws of a fresh row: its length, that it is within the layout, and that it is not overdriven.
 -- Assumes nothing.
 use mathlib.Core.Path.{_≡_, refl}
 use mathlib.Core.Logic.{by-cases}
@@ -27,7 +27,7 @@ pub length-fresh : (t : Bytes) (weak strong : Column) (i : ℕ) → length (fres
 unfolding freshRow
 length-fresh t weak strong i = refl
 
--- ---- it is valid
+-- ---- it is within the layout
 
 -- a choice of 1 or 0 is at most 1
 one-or-none : (b : Bool) → leb (cond b 1 0) 1 ≡ true
@@ -102,7 +102,7 @@ module _ (t : Bytes) (i : ℕ) where
       (λ k. rw (k, ← bits) (filled-queue (isPowered t i) (delayOf t i - 1)))
       (λ n. rw (ne-eqb (kindOf t i) Repeater n))
 
-  -- a fresh row is valid
+  -- a fresh row is within the layout
   pub fresh-good : (weak strong : Column) → goodState t i (freshRow t weak strong i) ≡ true
   unfolding freshRow goodLight goodTorch goodHadPower freshLight freshHadPower bitsSet isCandidate
   fresh-good weak strong =

@@ -1,4 +1,5 @@
--- Document 02, Change 5: where number 10 is given, and at which row. Those of a table that is accepted are none: that is `low` of `Table`.
+-- Document 02, Change 5: where number 10 is given, at which row, and what goes before it. No row of an accepted table is overdriven: that is `low`
+-- of `Table`.
 -- Assumes nothing.
 use mathlib.Core.Path.{_≡_, refl, ap, sym, _∙_}
 use mathlib.Core.Bool.{Bool, true, false}
@@ -7,7 +8,7 @@ use native.Mathlib.Nat.{add-zero}
 use native.Mathlib.Omega.{arith}
 use lib.ListN.{length}
 use lib.Dec.{eqb, leb}
-use borrow.Author.Tests.{eq-eqb, le-leb, le-ltb}
+use borrow.Author.Tests.{le-ltb}
 use Rattle.columns.specs.declared.Found.{Found}
 use Rattle.columns.specs.declared.Found.the-variants.{At, Nothing}
 use Rattle.columns.specs.Column.{Bytes}
@@ -18,11 +19,35 @@ use Rattle.world.specs.Rows.{rows}
 use Rattle.layout.specs.Good.{goodProfile}
 use Rattle.refusals.specs.declared.Checked.{Checked}
 use Rattle.refusals.specs.declared.Checked.the-variants.{Accepted, Refused}
-use Rattle.refusals.specs.Check.{refuseUnless, refuseAt, isBad, isMisplaced, isOverdriven, isOverdrivenDevice, checkRows, checkTable, checkInput, checkValues}
-use Rattle.refusals.proofs.Passed.{never, passed-unless, passed-at}
+use Rattle.refusals.specs.Check.{refuseUnless, refuseAt, orElse, isBad, isMisplaced, isOverdriven, isOverdrivenDevice, checkOverdriven, checkRows, checkTable, checkInput, checkValues}
+use Rattle.refusals.proofs.Passed.{never, or-accepted}
 
--- ---- a refusal of another number falls later
+-- ---- tests, and those after them
 
+-- the tests in a row are the first of them, and then the others
+unless-else : (n : ℕ) (b : Bool) (c next : Checked) → refuseUnless n b (orElse c next) ≡ orElse (refuseUnless n b c) next
+unless-else n true c next = refl
+unless-else n false c next = refl
+
+rows-else : (n d : ℕ) (f : Found) (c next : Checked) → refuseAt n d f (orElse c next) ≡ orElse (refuseAt n d f c) next
+rows-else n d (At i) c next = refl
+rows-else n d Nothing c next = refl
+
+-- a test of each of n rows gives the first at fault, "row as for 4", and nothing where none is
+first-refused : (m : ℕ) (f : ℕ → Bool) (n i : ℕ) → IsFirst f 0 n i → refuseAt m 0 (firstFrom f n 0) Accepted ≡ Refused m i
+first-refused m f n i h = rw (at-first f n 0 i h) (ap (Refused m) (add-zero i))
+
+none-refused : (m d : ℕ) (f : ℕ → Bool) (n : ℕ) → ((i : ℕ) → i < n → f i ≡ false) → refuseAt m d (firstFrom f n 0) Accepted ≡ Accepted
+none-refused m d f n h = rw (none-first f n 0 (λ i _ l. h i (omega arith))) refl
+
+refused-first : (m : ℕ) (f : ℕ → Bool) (n : ℕ) {i : ℕ} → refuseAt m 0 (firstFrom f n 0) Accepted ≡ Refused m i → IsFirst f 0 n i
+refused-first m f n {i} e = go (firstFrom f n 0) refl e
+  where
+    go : (x : Found) → firstFrom f n 0 ≡ x → refuseAt m 0 x Accepted ≡ Refused m i → IsFirst f 0 n i
+    go (At k) is e = let same : k + 0 ≡ i = cc in rw (sym (add-zero k) ∙ same) at (first-at f n 0 k is)
+    go Nothing is e = never (sym e)
+
+-- a refusal of another number falls later
 same-number : {n m i j : ℕ} → Refused n i ≡ Refused m j → n ≡ m
 same-number e = cc
 
@@ -34,91 +59,88 @@ later-at : (n m d : ℕ) (f : Found) (next : Checked) {i : ℕ} → ¬ (n ≡ m)
 later-at n m d (At k) next other e = absurd (other (same-number e))
 later-at n m d Nothing next other e = (refl, e)
 
--- the last test, of each of n rows, gives the first at fault: "row as for 4"
-last-at : (m : ℕ) (f : ℕ → Bool) (n : ℕ) {i : ℕ} → refuseAt m 0 (firstFrom f n 0) Accepted ≡ Refused m i → IsFirst f 0 n i
-last-at m f n {i} e = go (firstFrom f n 0) refl e
-  where
-    go : (x : Found) → firstFrom f n 0 ≡ x → refuseAt m 0 x Accepted ≡ Refused m i → IsFirst f 0 n i
-    go (At k) is e = let same : k + 0 ≡ i = cc in rw (sym (add-zero k) ∙ same) at (first-at f n 0 k is)
-    go Nothing is e = never (sym e)
-
-first-refused : (m : ℕ) (f : ℕ → Bool) (n i : ℕ) (next : Checked) → IsFirst f 0 n i → refuseAt m 0 (firstFrom f n 0) next ≡ Refused m i
-first-refused m f n i next h = rw (at-first f n 0 i h) (ap (Refused m) (add-zero i))
-
-none-refused : (m d : ℕ) (f : ℕ → Bool) (n : ℕ) (next : Checked) → ((i : ℕ) → i < n → f i ≡ false) → refuseAt m d (firstFrom f n 0) next ≡ next
-none-refused m d f n next h = rw (none-first f n 0 (λ i _ l. h i (omega arith))) refl
-
 -- ---- on rows: "tested on rows just after 5"
 
--- document 01's tests of rows
-abbrev pub checkRows01 : ℕ → Bytes → Checked
-checkRows01 kinds t =
-    refuseAt 4 0 (firstFrom (isBad kinds t) (rows t) 0) (refuseAt 5 1 (firstFrom (isMisplaced t) (rows t - 1) 0) Accepted)
+module _ (p t : Bytes) where
+  -- 1 to 5: the tests of a profile and a table before Change 5
+  abbrev pub checkInput04 : Checked
+  checkInput04 =
+      refuseUnless 1 (goodProfile p)
+      (refuseUnless 2 (eqb (length t % 32) 0)
+      (refuseUnless 3 (leb (rows t) 1024)
+      (refuseAt 4 0 (firstFrom (isBad (length p) t) (rows t) 0) (refuseAt 5 1 (firstFrom (isMisplaced t) (rows t - 1) 0) Accepted))))
 
--- where no row is overdriven, what falls on the rows is what fell by document 01
-pub rows-01 : (kinds : ℕ) (t : Bytes) → ((i : ℕ) → i < rows t → isOverdriven t i ≡ false) → checkRows kinds t ≡ checkRows01 kinds t
-unfolding checkRows
-rows-01 kinds t none = rw (none-refused 10 0 (isOverdriven t) (rows t) Accepted none) refl
-
--- what falls by document 01 falls whatever is overdriven
-pub rows-01-first : (kinds : ℕ) (t : Bytes) {n i : ℕ} → checkRows01 kinds t ≡ Refused n i → checkRows kinds t ≡ Refused n i
-unfolding checkRows
-rows-01-first kinds t {n} {i} h =
-    earlier (firstFrom (isBad kinds t) (rows t) 0) (firstFrom (isMisplaced t) (rows t - 1) 0)
-    (refuseAt 10 0 (firstFrom (isOverdriven t) (rows t) 0) Accepted) h
-  where
-    earlier : (bad misplaced : Found) (next : Checked) → refuseAt 4 0 bad (refuseAt 5 1 misplaced Accepted) ≡ Refused n i
-        → refuseAt 4 0 bad (refuseAt 5 1 misplaced next) ≡ Refused n i
-    earlier (At k) misplaced next e = e
-    earlier Nothing (At k) next e = e
-    earlier Nothing Nothing next e = never (sym e)
-
-module _ (p t : Bytes) (i : ℕ) where
-  -- where 10 is given, the row is the first that is overdriven,
-  pub given-overdriven : checkInput p t ≡ Refused 10 i → IsFirst (isOverdriven t) 0 (rows t) i
+  -- 10 comes after them, and after it nothing of the rows
+  pub just-after-5 : checkInput p t ≡ orElse checkInput04 (refuseAt 10 0 (firstFrom (isOverdriven t) (rows t) 0) Accepted)
   unfolding checkInput checkTable checkRows
-  given-overdriven h =
-      let (_, a) = later-unless 1 10 (goodProfile p) _ (λ e. omega arith) h in
-      let (_, b) = later-unless 2 10 (eqb (length t % 32) 0) _ (λ e. omega arith) a in
-      let (_, c) = later-unless 3 10 (leb (rows t) 1024) _ (λ e. omega arith) b in
-      let (_, d) = later-at 4 10 0 (firstFrom (isBad (length p) t) (rows t) 0) _ (λ e. omega arith) c in
-      let (_, e) = later-at 5 10 1 (firstFrom (isMisplaced t) (rows t - 1) 0) _ (λ e. omega arith) d in
-      last-at 10 (isOverdriven t) (rows t) e
+  just-after-5 =
+      let next = refuseAt 10 0 (firstFrom (isOverdriven t) (rows t) 0) Accepted in
+      let misplaced = firstFrom (isMisplaced t) (rows t - 1) 0 in
+      rw (
+        rows-else 5 1 misplaced Accepted next,
+        rows-else 4 0 (firstFrom (isBad (length p) t) (rows t) 0) (refuseAt 5 1 misplaced Accepted) next,
+        unless-else 3 (leb (rows t) 1024) _ next,
+        unless-else 2 (eqb (length t % 32) 0) _ next,
+        unless-else 1 (goodProfile p) _ next,
+      ) refl
 
-  -- and 10 is given of the first that is overdriven, where nothing of document 01 falls.
-  pub overdriven-given : goodProfile p ≡ true → length t % 32 ≡ 0 → rows t ≤ 1024 → checkRows01 (length p) t ≡ Accepted
-      → IsFirst (isOverdriven t) 0 (rows t) i → checkInput p t ≡ Refused 10 i
-  unfolding checkInput checkTable checkRows
-  overdriven-given good whole few passed first =
-      let (none, rest) = passed-at 4 0 (firstFrom (isBad (length p) t) (rows t) 0) _ passed in
-      let (ordered, _) = passed-at 5 1 (firstFrom (isMisplaced t) (rows t - 1) 0) _ rest in
-      rw (good, eq-eqb (length t % 32) 0 whole, le-leb (rows t) 1024 few, none, ordered)
-      (first-refused 10 (isOverdriven t) (rows t) i Accepted first)
+  -- where no row is overdriven, what falls is what fell before the change
+  pub input-04 : ((i : ℕ) → i < rows t → isOverdriven t i ≡ false) → checkInput p t ≡ checkInput04
+  input-04 none = just-after-5 ∙ rw (none-refused 10 0 (isOverdriven t) (rows t) none) (or-accepted checkInput04)
+
+  -- and it goes before 10, whatever is overdriven
+  pub input-04-first : {n i : ℕ} → checkInput04 ≡ Refused n i → checkInput p t ≡ Refused n i
+  input-04-first h = just-after-5 ∙ rw h refl
+
+  module _ (i : ℕ) where
+    -- where 10 is given, nothing else falls, and the row is the first that is overdriven;
+    pub given-overdriven : checkInput p t ≡ Refused 10 i → (checkInput04 ≡ Accepted) × IsFirst (isOverdriven t) 0 (rows t) i
+    unfolding checkInput checkTable checkRows
+    given-overdriven h =
+        let (profile, h1) = later-unless 1 10 (goodProfile p) _ (λ e. omega arith) h in
+        let (whole, h2) = later-unless 2 10 (eqb (length t % 32) 0) _ (λ e. omega arith) h1 in
+        let (few, h3) = later-unless 3 10 (leb (rows t) 1024) _ (λ e. omega arith) h2 in
+        let (good, h4) = later-at 4 10 0 (firstFrom (isBad (length p) t) (rows t) 0) _ (λ e. omega arith) h3 in
+        let (ordered, h5) = later-at 5 10 1 (firstFrom (isMisplaced t) (rows t - 1) 0) _ (λ e. omega arith) h4 in
+        (rw (profile, whole, few, good, ordered) refl, refused-first 10 (isOverdriven t) (rows t) h5)
+
+    -- and there it is given.
+    pub overdriven-given : checkInput04 ≡ Accepted → IsFirst (isOverdriven t) 0 (rows t) i → checkInput p t ≡ Refused 10 i
+    overdriven-given passed first = just-after-5 ∙ rw passed (first-refused 10 (isOverdriven t) (rows t) i first)
 
 -- ---- on a column or state: "on a column or state just after 6"
 
 module _ (sized : Bool) (isBadValue : ℕ → Bool) (device : ℕ → ℕ) (n : ℕ) where
-  -- document 01's tests of a column or state
-  abbrev pub checkValues01 : Checked
-  checkValues01 = refuseUnless 6 sized (refuseAt 6 0 (firstFrom isBadValue n 0) Accepted)
+  -- 6: the tests of a column or state before Change 5
+  abbrev pub checkValues04 : Checked
+  checkValues04 = refuseUnless 6 sized (refuseAt 6 0 (firstFrom isBadValue n 0) Accepted)
 
-  -- where no device byte is overdriven, what falls is what fell by document 01
-  pub values-01 : ((i : ℕ) → i < n → device i ≤ maxSignal) → checkValues sized isBadValue device n ≡ checkValues01
-  values-01 low = rw (none-refused 10 0 (isOverdrivenDevice device) n Accepted (λ i l. le-ltb maxSignal (device i) (low i l))) refl
+  -- 10 comes after them
+  pub just-after-6 : checkValues sized isBadValue device n ≡ orElse checkValues04 (checkOverdriven device n)
+  just-after-6 =
+      let next = checkOverdriven device n in
+      rw (rows-else 6 0 (firstFrom isBadValue n 0) Accepted next, unless-else 6 sized _ next) refl
+
+  -- where no device byte is above 15, what falls is what fell before the change
+  pub values-04 : ((i : ℕ) → i < n → device i ≤ maxSignal) → checkValues sized isBadValue device n ≡ checkValues04
+  values-04 low =
+      just-after-6
+      ∙ rw (none-refused 10 0 (isOverdrivenDevice device) n (λ i l. le-ltb maxSignal (device i) (low i l))) (or-accepted checkValues04)
+
+  -- and it goes before 10: a 6 at any row before a 10 at any row
+  pub values-04-first : {m i : ℕ} → checkValues04 ≡ Refused m i → checkValues sized isBadValue device n ≡ Refused m i
+  values-04-first h = just-after-6 ∙ rw h refl
 
   module _ (i : ℕ) where
-    -- where 10 is given, the length and every value are good, and the row is the first that is overdriven,
+    -- where 10 is given, the length and every value are good, and the row is the first whose device byte is above 15;
     pub values-given-overdriven : checkValues sized isBadValue device n ≡ Refused 10 i
         → (sized ≡ true) × ((j : ℕ) → j < n → isBadValue j ≡ false) × IsFirst (isOverdrivenDevice device) 0 n i
     values-given-overdriven h =
-        let (a, b) = later-unless 6 10 sized _ (λ e. omega arith) h in
-        let (c, d) = later-at 6 10 0 (firstFrom isBadValue n 0) _ (λ e. omega arith) b in
-        (a, λ j l. first-none isBadValue n 0 c j zero-le (omega arith), last-at 10 (isOverdrivenDevice device) n d)
+        let (long, h1) = later-unless 6 10 sized _ (λ e. omega arith) h in
+        let (good, h2) = later-at 6 10 0 (firstFrom isBadValue n 0) _ (λ e. omega arith) h1 in
+        (long, λ j l. first-none isBadValue n 0 good j zero-le (omega arith), refused-first 10 (isOverdrivenDevice device) n h2)
 
-    -- and there 10 is given.
-    pub values-overdriven-given : checkValues01 ≡ Accepted → IsFirst (isOverdrivenDevice device) 0 n i
+    -- and there it is given.
+    pub values-overdriven-given : checkValues04 ≡ Accepted → IsFirst (isOverdrivenDevice device) 0 n i
         → checkValues sized isBadValue device n ≡ Refused 10 i
-    values-overdriven-given passed first =
-        let (long, rest) = passed-unless 6 sized _ passed in
-        let (none, _) = passed-at 6 0 (firstFrom isBadValue n 0) _ rest in
-        rw (long, none) (first-refused 10 (isOverdrivenDevice device) n i Accepted first)
+    values-overdriven-given passed first = just-after-6 ∙ rw passed (first-refused 10 (isOverdrivenDevice device) n i first)

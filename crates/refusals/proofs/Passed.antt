@@ -81,3 +81,8 @@ at-else n d Nothing next = refl
 pub also-after : (a b : Checked) (n : ℕ) (passed : Bool) → also (orElse a b) n passed ≡ orElse a (also b n passed)
 also-after Accepted b n passed = refl
 also-after (Refused m i) b n passed = refl
+
+-- nothing comes after
+pub or-accepted : (c : Checked) → orElse c Accepted ≡ c
+or-accepted Accepted = refl
+or-accepted (Refused n i) = refl

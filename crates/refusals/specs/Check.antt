@@ -81,12 +81,14 @@ IsAccepted p t = checkInput p t ≡ Accepted
 abbrev pub isOverdrivenDevice : (ℕ → ℕ) → ℕ → Bool
 isOverdrivenDevice device i = ltb maxSignal (device i)
 
+-- of n rows
+abbrev pub checkOverdriven : (ℕ → ℕ) → ℕ → Checked
+checkOverdriven device n = refuseAt 10 0 (firstFrom (isOverdrivenDevice device) n 0) Accepted
+
 -- 6 bad state, of a device column or a state of n rows: "wrong length or value"; "in 6 length before value"; 10 "on a column or state just
 -- after 6"
 abbrev pub checkValues : Bool → (ℕ → Bool) → (ℕ → ℕ) → ℕ → Checked
-checkValues sized isBadValue device n =
-    refuseUnless 6 sized
-    (refuseAt 6 0 (firstFrom isBadValue n 0) (refuseAt 10 0 (firstFrom (isOverdrivenDevice device) n 0) Accepted))
+checkValues sized isBadValue device n = refuseUnless 6 sized (refuseAt 6 0 (firstFrom isBadValue n 0) (checkOverdriven device n))
 
 -- ---- what a call answers and writes
 

@@ -5,9 +5,8 @@ use columns::Found;
 ghost use mathlib.Core.Path.{_≡_};
 ghost use Prim.Native.Nat.{_*_, _≤_};
 ghost use lib.ListN.{length, getD};
-ghost use Rattle.columns.specs.First.{firstFrom};
 ghost use Rattle.refusals.specs.declared.Checked.the-variants as Checked;
-ghost use Rattle.refusals.specs.Check.{refuseUnless, refuseAt, RowFits, orElse, also, isOverdrivenDevice, checkRows, checkTable, checkInput, answerOf};
+ghost use Rattle.refusals.specs.Check.{refuseUnless, refuseAt, RowFits, orElse, also, checkOverdriven, checkRows, checkTable, checkInput, answerOf};
 
 // Whether the inputs are accepted, or the number of the refusal that falls on them and the row at fault.
 pub enum Checked {
@@ -94,7 +93,7 @@ pub fn check_input(profile: &[u8], table: &[u8]) -> Checked
 // Refusal 10 of a device column or a state, with so many bytes for each of at most 1,024 rows, the device byte first.
 pub fn check_overdriven(bytes: &[u8], width: usize, rows: usize) -> Checked
     requires { ⌜ (length (now bytes) ≡ rows * width) × (rows ≤ 1024) ⌝ }
-    ensures { λ r. ⌜ r ≡ refuseAt 10 0 (firstFrom (isOverdrivenDevice (λ i. getD (now (bytes .entry)) (i * width) 0)) rows 0) Checked.Accepted ⌝ }
+    ensures { λ r. ⌜ r ≡ checkOverdriven (λ i. getD (now (bytes .entry)) (i * width) 0) rows ⌝ }
 {
     refuse_at(10, scan::first_overdriven_device(bytes, width, rows), 0)
 }

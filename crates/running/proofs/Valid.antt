@@ -16,6 +16,8 @@ use Rattle.blocks.specs.Kind.{Comparator}
 use Rattle.world.specs.Rows.{rows, kindOf}
 use Rattle.refusals.specs.declared.Checked.the-variants.{Refused}
 use Rattle.refusals.specs.Accepted.{Table}
+use Rattle.refusals.specs.Check.{IsAccepted}
+use Rattle.refusals.proofs.Accepted.{accepted-input}
 use Rattle.refusals.proofs.Passed.{passed-values, values-pass}
 use Rattle.refusals.proofs.Overdriven.{values-given-overdriven}
 use Rattle.emitted.specs.Emitted.{IsValid}
@@ -138,16 +140,17 @@ unfolding ticks
 ticks-valid zero p t st h = h
 ticks-valid (suc n) p t st h = ticks-valid n p t (tick p t st) (tick-valid p t st h)
 
--- ---- the fresh state is valid
+-- ---- the fresh state of an accepted table is valid
 
-pub fresh-valid : (p t : Bytes) → Table t → IsValidState t (freshState p t)
+pub fresh-valid : (p t : Bytes) → IsAccepted p t → IsValidState t (freshState p t)
 unfolding freshState
 fresh-valid p t a =
+    let table = accepted-input p t a .1 in
     let s = settled p t (freshDevices t) in
     let wide : (i : ℕ) → i < rows t → length (freshRow t (s .weak) (s .strong) i) ≡ 16 = λ i l. length-fresh t (s .weak) (s .strong) i in
     state-valid t (freshState p t)
     (record {
       sized = length-concatRows 16 (freshRow t (s .weak) (s .strong)) (rows t) wide;
       good = λ i l. rw (part-concatRows 16 (freshRow t (s .weak) (s .strong)) (rows t) wide i l) (fresh-good t i (s .weak) (s .strong));
-      low = λ i l. rw (part-concatRows 16 (freshRow t (s .weak) (s .strong)) (rows t) wide i l) (fresh-row-low t i (a .low i l) (s .weak) (s .strong));
+      low = λ i l. rw (part-concatRows 16 (freshRow t (s .weak) (s .strong)) (rows t) wide i l) (fresh-row-low t i (table .low i l) (s .weak) (s .strong));
     })

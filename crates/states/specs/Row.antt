@@ -55,7 +55,7 @@ bitsSet (suc n) w = w % 2 + bitsSet n (w / 2)
 unfoldable pub isCandidate : ℕ → Bool
 isCandidate toggles = leb 8 (bitsSet 31 toggles)
 
--- ---- valid rows
+-- ---- rows within the layout; that a device byte is at most 15 is number 10's, in `checkState`
 
 -- "the rest 0"
 abbrev pub goodRest : Bytes → Bool

@@ -1,10 +1,10 @@
 -- Document 02, Change 5, of a row: where no settled number is above 15, no device byte is above it after a device's step.
 -- Assumes nothing.
-use mathlib.Core.Path.{_≡_, refl}
+use mathlib.Core.Path.{_≡_}
 use mathlib.Core.Logic.{by-cases}
 use mathlib.Core.Bool.{Bool, true, false, cond}
 use Prim.Native.Nat.{ℕ, _-_, _≤_, zero-le}
-use native.Mathlib.Nat.{le-refl, le-trans, max-le}
+use native.Mathlib.Nat.{le-refl, le-trans}
 use native.Mathlib.Decide.{ℕ-discrete}
 use native.Mathlib.Omega.{arith}
 use lib.ListN.{length}
@@ -51,7 +51,7 @@ module _ (t : Bytes) (s : Numbers) (low : (j : ℕ) → electricalLevel s j ≤ 
     unfolding deviceRow
     of-comparator k = rw (k, getD-set-same r 0 (nextComparator t s i) 0 (omega arith)) next-low
 
-    -- a device's step, of a valid row
+    -- a device's step, of a row within the layout
     pub device-low : Parts t i r → deviceOf (deviceRow p t d s i r) ≤ maxSignal
     device-low v =
         by-cases (ℕ-discrete (kindOf t i) Comparator) of-comparator

@@ -28,7 +28,7 @@ pub record Fresh (p t st st′ : Bytes) (signal weak strong signal′ weak′ st
       Columns (checkFresh p t (length st) (length signal) (length weak) (length strong)) (settled p t (freshDevices t))
       signal weak strong signal′ weak′ strong′
 
--- ---- tick and switch: refusals 1 to 7 and 10 of a call with a state
+-- ---- tick and switch: 1 to 5, 10 on the rows, 6, 10 on the state, and 7, of a call with a state
 
 unfoldable pub checkStep : Bytes → Bytes → Bytes → ℕ → ℕ → ℕ → Checked
 checkStep p t st signal weak strong = orElse (checkInput p t) (also (checkState t st) 7 (goodColumns t signal weak strong))

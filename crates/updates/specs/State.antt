@@ -1,4 +1,5 @@
--- The state of a simulation: sixteen bytes a row, its device column, which states are valid, and the fresh one.
+-- The state of a simulation: sixteen bytes a row, its device column, which states are valid, and the fresh one. What stands in
+-- quotation marks is document 01's or, of number 10, document 02's, Change 5.
 -- Assumes nothing.
 use mathlib.Core.Path.{_≡_}
 use mathlib.Core.Bool.{Bool, not}
