@@ -26,9 +26,10 @@ use Rattle.refusals.proofs.Passed.{or-accepted}
 use Rattle.refusals.proofs.Gives.{not-given}
 use Rattle.refusals.proofs.Tells.{told-accepted, accepted-told, never-told}
 use Rattle.arms.specs.Arms.{armOf}
+use Rattle.levels.specs.Numbers.{AtMost15}
 use Rattle.emitted.specs.Emitted.{IsValid, emittedLevel, emitted}
 use Rattle.edges.specs.Edges.{networkOf}
-use Rattle.electrical.specs.Answer.{roundsOf, settled, goodColumns, checkCall, checkSettle, ofCall, ofSettle, Passed, Settles, SettledTo, AtMost15, Unchanged}
+use Rattle.electrical.specs.Answer.{roundsOf, settled, goodColumns, checkCall, checkSettle, ofCall, ofSettle, Passed, Settles, SettledTo, Unchanged}
 use Rattle.electrical.specs.Join.{largerOf, Joined, Call, JoinedCalls}
 use Rattle.electrical.proofs.Emitted.{emitted-larger, level-capped, emitted-capped}
 use Rattle.edges.proofs.Networks.{power-on-map}

@@ -6,8 +6,7 @@ use mathlib.Core.List.{List, [], _∷_, _++_}
 use Prim.Native.Nat.{ℕ, _≤_}
 use lib.ListN.{length}
 use lib.Dec.{eqb, leb}
-use Rattle.columns.specs.Column.{Bytes, Column, row}
-use Rattle.columns.specs.Signal.{maxSignal}
+use Rattle.columns.specs.Column.{Bytes, Column}
 use Rattle.network.specs.Network.{State}
 use Rattle.network.specs.Settled.{roundsOf as networkRounds, settled as networkSettled}
 use Rattle.world.specs.Rows.{rows}
@@ -80,12 +79,6 @@ pub record SettledTo (p t : Bytes) (d signal weak strong : Column) (r : ℕ) : T
   pub signals : signal ≡ settled p t d .signal
   pub weaks : weak ≡ settled p t d .weak
   pub strongs : strong ≡ settled p t d .strong
-
--- No number of the three columns is above 15.
-pub record AtMost15 (signal weak strong : Column) : Type 0 where
-  pub signals : (i : ℕ) → row signal i ≤ maxSignal
-  pub weaks : (i : ℕ) → row weak i ≤ maxSignal
-  pub strongs : (i : ℕ) → row strong i ≤ maxSignal
 
 -- Of a call that is refused: the columns are as they were.
 pub record Unchanged (signal weak strong signal′ weak′ strong′ : Column) : Type 0 where

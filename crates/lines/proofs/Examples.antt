@@ -7,7 +7,7 @@ use Rattle.places.specs.Places.{cell}
 use Rattle.text.specs.Text.{decimalWithin, decimalOf, signedText, lineOf}
 use Rattle.lines.specs.Lines.{rowText, refusalText}
 
-row-line : rowText (cell (negsuc 999999) (pos 0) (negsuc 0)) 200 15 0 ≡ ascii "row=-1000000,0,-1,200,15,0\n"
+row-line : rowText (cell (negsuc 999999) (pos 0) (negsuc 0)) 15 9 0 ≡ ascii "row=-1000000,0,-1,15,9,0\n"
 unfolding rowText signedText decimalOf decimalWithin
 row-line = refl
 

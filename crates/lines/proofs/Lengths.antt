@@ -4,6 +4,7 @@ use Prim.Native.Nat.{ℕ, _≤_, _<_}
 use native.Mathlib.Omega.{arith}
 use lib.ListN.{length, length-append}
 use lib.Signed.{natAbs-le}
+use Rattle.columns.specs.Signal.{maxSignal}
 use Rattle.columns.specs.Ascii.{ascii}
 use Rattle.places.specs.declared.Pos.{Pos}
 use Rattle.places.proofs.Steps.{InRange}
@@ -11,7 +12,7 @@ use Rattle.text.proofs.Decimal.{decimal-few}
 use Rattle.text.proofs.Lengths.{signed-few, line-few}
 use Rattle.lines.specs.Lines.{rowText, refusalText}
 
-pub row-few : (q : Pos) (signal weak strong : ℕ) → InRange q → signal ≤ 255 → weak ≤ 255 → strong ≤ 255 → length (rowText q signal weak strong) ≤ 43
+pub row-few : (q : Pos) (signal weak strong : ℕ) → InRange q → signal ≤ maxSignal → weak ≤ maxSignal → strong ≤ maxSignal → length (rowText q signal weak strong) ≤ 40
 unfolding rowText
 row-few q signal weak strong r hs hw hg =
     simp length-append
@@ -20,9 +21,9 @@ row-few q signal weak strong r hs hw hg =
       signed-few (q .x) 6 (omega (arith, natAbs-le (q .x) {H = 1000001} (omega (arith, r .x)))),
       signed-few (q .y) 6 (omega (arith, natAbs-le (q .y) {H = 1000001} (omega (arith, r .y)))),
       signed-few (q .z) 6 (omega (arith, natAbs-le (q .z) {H = 1000001} (omega (arith, r .z)))),
-      decimal-few signal 2 (omega arith),
-      decimal-few weak 2 (omega arith),
-      decimal-few strong 2 (omega arith),
+      decimal-few signal 1 (omega arith),
+      decimal-few weak 1 (omega arith),
+      decimal-few strong 1 (omega arith),
     ))
 
 pub refusal-few : (n i : ℕ) → n < 100 → i < 10000 → length (refusalText n i) ≤ 22

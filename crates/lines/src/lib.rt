@@ -4,6 +4,8 @@ use world::row;
 ghost use Prim.Native.Nat.{_+_, _*_, _≤_};
 ghost use lib.ListN.{length};
 ghost use Rattle.columns.specs.Column.{concatRows};
+ghost use Rattle.columns.specs.Signal.{maxSignal};
+ghost use Rattle.levels.specs.Numbers.{AtMost15};
 ghost use Rattle.world.specs.Rows.{rows as Rows·rows};
 ghost use Rattle.text.specs.Put.{Puts};
 ghost use Rattle.lines.specs.Lines.{placeText, levelsText, rowOf, settledText, refusalText};
@@ -20,11 +22,12 @@ fn place(out: &mut [u8], at: usize, q: Pos) -> usize
     text::signed(out, z, q.z, b',')
 }
 
-// The rest of the line.
+// The rest of the line, of levels that have at most two digits.
 fn levels(out: &mut [u8], at: usize, signal: u8, weak: u8, strong: u8) -> usize
-    requires { ⌜ at + 12 ≤ length (now out) ⌝ }
+    requires { ⌜ (signal ≤ maxSignal) × (weak ≤ maxSignal) × (strong ≤ maxSignal) ⌝ }
+    requires { ⌜ at + 9 ≤ length (now out) ⌝ }
     ensures { λ r. ⌜ Puts (levelsText signal weak strong) at (now (out .entry)) (now (out .exit)) r ⌝ }
-    ensures few { λ r. ⌜ r ≤ at + 12 ⌝ }
+    ensures few { λ r. ⌜ r ≤ at + 9 ⌝ }
 {
     let second = text::small_number(out, at, signal, b',');
     let third = text::small_number(out, second, weak, b',');
@@ -41,9 +44,10 @@ fn line_of(
     strong: &[u8],
     i: usize,
 ) -> usize
-    requires { ⌜ at + 52 ≤ length (now out) ⌝ }
+    requires { ⌜ AtMost15 (now signal) (now weak) (now strong) ⌝ }
+    requires { ⌜ at + 49 ≤ length (now out) ⌝ }
     ensures { λ r. ⌜ Puts (rowOf (now (table .entry)) (now (signal .entry)) (now (weak .entry)) (now (strong .entry)) i) at (now (out .entry)) (now (out .exit)) r ⌝ }
-    ensures few { λ r. ⌜ r ≤ at + 52 ⌝ }
+    ensures few { λ r. ⌜ r ≤ at + 49 ⌝ }
 {
     let next = place(out, at, row::pos_of(table, i));
     levels(
@@ -57,7 +61,8 @@ fn line_of(
 
 // The lines of every row, in order.
 fn rows(out: &mut [u8], at: usize, table: &[u8], signal: &[u8], weak: &[u8], strong: &[u8]) -> usize
-    requires { ⌜ at + Rows·rows (now table) * 52 ≤ length (now out) ⌝ }
+    requires { ⌜ AtMost15 (now signal) (now weak) (now strong) ⌝ }
+    requires { ⌜ at + Rows·rows (now table) * 49 ≤ length (now out) ⌝ }
     ensures { λ r. ⌜ Puts (concatRows (Rows·rows (now (table .entry))) (rowOf (now (table .entry)) (now (signal .entry)) (now (weak .entry)) (now (strong .entry)))) at (now (out .entry)) (now (out .exit)) r ⌝ }
 {
     let n = row::rows(table);
@@ -79,7 +84,8 @@ pub fn settled(
     weak: &[u8],
     strong: &[u8],
 ) -> usize
-    requires { ⌜ 56 + Rows·rows (now table) * 52 ≤ length (now out) ⌝ }
+    requires { ⌜ AtMost15 (now signal) (now weak) (now strong) ⌝ }
+    requires { ⌜ 56 + Rows·rows (now table) * 49 ≤ length (now out) ⌝ }
     ensures { λ r. ⌜ Puts (settledText (now (table .entry)) rounds (now (signal .entry)) (now (weak .entry)) (now (strong .entry))) 0 (now (out .entry)) (now (out .exit)) r ⌝ }
 {
     let second = text::line(out, 0, b"blocks=", row::rows(table) as u64);

@@ -1,4 +1,4 @@
--- Laws of a run of the program: which refusal falls on it. The fresh devices are always valid, and limit 128 is never too low.
+-- Laws of a run of the program: which refusal falls on it. The fresh devices of an accepted table are valid, and limit 128 is never too low.
 -- Assumes nothing.
 use mathlib.Core.Path.{_≡_, refl, _∙_}
 use mathlib.Core.Logic.{by-cases}

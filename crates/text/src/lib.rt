@@ -41,11 +41,11 @@ pub fn number(out: &mut [u8], at: usize, n: u64, end: u8) -> usize
     digits_then(out, at, n, end)
 }
 
-// A number below 256 in decimal, and the byte that ends it: at most three digits.
+// A number below 100 in decimal, and the byte that ends it: at most two digits.
 pub fn small_number(out: &mut [u8], at: usize, n: u8, end: u8) -> usize
-    requires { ⌜ at + 4 ≤ length (now out) ⌝ }
+    requires { ⌜ (n < 100) × (at + 3 ≤ length (now out)) ⌝ }
     ensures { λ r. ⌜ Puts (decimalOf n ++ (end ∷ [])) at (now (out .entry)) (now (out .exit)) r ⌝ }
-    ensures few { λ r. ⌜ r ≤ at + 4 ⌝ }
+    ensures few { λ r. ⌜ r ≤ at + 3 ⌝ }
 {
     digits_then(out, at, n as u64, end)
 }

@@ -21,8 +21,15 @@ byte-at-requires-2 c κs = search needs
 byte-at-requires-3 : tie.Need-byte-at-requires-3
 byte-at-requires-3 c κs = search needs
 
+abbrev start : tie.After-place → tie.Start
+start c = c .before .before .before .before .before .before .before .before
+
 levels-requires : tie.Need-levels-requires
-levels-requires c κs = search needs
+levels-requires c κs =
+    let s = start (c .before .before .before .before .before .before) in
+    let low = s .pre .0 in
+    let i = s .args .i in
+    (rw (c .before .before .byte-at .ensures, c .before .byte-at2 .ensures, c .byte-at3 .ensures) (low .signals i, low .weaks i, low .strongs i), search needs)
 
 same-length : tie.Need-same-length
 same-length c = search needs

@@ -15,7 +15,7 @@ use Rattle.lines.proofs.rows.Statement.{statement}
 use Rattle.lines.proofs.rows.Tie as tie
 
 abbrev Inv-loop : tie.InvT-loop
-Inv-loop out₀ at table signal weak strong n end₀ i₀ out end i = (i ≤ n) × (n ≡ rows table) × (end ≤ at + i * 52) × Puts (concatRows i (rowOf table signal weak strong)) at out₀ out end
+Inv-loop out₀ at table signal weak strong n end₀ i₀ out end i = (i ≤ n) × (n ≡ rows table) × (end ≤ at + i * 49) × Puts (concatRows i (rowOf table signal weak strong)) at out₀ out end
 
 abbrev μ-loop : tie.MeasureT-loop
 μ-loop out₀ at table signal weak strong n end₀ i₀ out end i = n - i
@@ -27,13 +27,13 @@ loop-holds : tie.Need-loop-holds Inv-loop μ-loop
 unfolding concatRowsFrom
 loop-holds c =
     let s = c .before .before .before .before .before .before in
-    (omega arith, c .rows .ensures, omega arith, puts-none (s .args .at) (s .args .out .now) (omega (arith, s .pre)))
+    (omega arith, c .rows .ensures, omega arith, puts-none (s .args .at) (s .args .out .now) (omega (arith, s .pre .1)))
 
 line-of-requires : tie.Need-line-of-requires Inv-loop μ-loop
 line-of-requires c κs =
     let l = c .before .before in
     let s = l .before .before .before .before .before .before .before in
-    omega (arith, l .loop .inv, puts-length (l .loop .inv .3), s .pre)
+    (s .pre .0, omega (arith, l .loop .inv, puts-length (l .loop .inv .3), s .pre .1))
 
 add-i : tie.Need-add-i Inv-loop μ-loop
 add-i c = search needs

@@ -1,13 +1,17 @@
 -- `report::settled` meets its contract: an accepted table has no more rows than the columns have room for. Assumes nothing.
-use mathlib.Core.Path.{_≡_, sym, ap, _∙_}
+use mathlib.Core.Path.{_≡_, sym}
 use Prim.Native.Nat.{ℕ, _≤_}
 use native.Mathlib.Omega.{arith}
 use lib.ListN.{length, take}
 use lib.Seq.{length-take-le}
 use borrow.Author.Needs.{needs}
-use Rattle.columns.specs.Column.{Bytes}
 use Rattle.world.specs.Rows.{rows}
+use Rattle.refusals.proofs.Accepted.{accepted-input}
 use Rattle.refusals.proofs.Tells.{accepted-told}
+use Rattle.electrical.specs.Answer.{SettledTo}
+use Rattle.electrical.proofs.Demand.{settled-to-at-most-15}
+use Rattle.updates.specs.State.{freshDevices}
+use Rattle.running.proofs.Valid.{fresh-devices-valid}
 use Rattle.initial.proofs.Answers.{initial-tells, initial-sized}
 use Rattle.report.specs.Text.{runText}
 use Rattle.report.proofs.Run.{run-few}
@@ -56,9 +60,22 @@ array-share-prefix-strong c = let r = c .before .before .before in fits r _ (siz
 slice-aggregate-settled-3 : tie.Need-slice-aggregate-settled-3
 slice-aggregate-settled-3 c = let r = c .before .before .before .before in sym (length-take-le _ _ (fits r _ (sized r .2)))
 
+-- the entries of the rows are what the table settles to
+entries : (c : tie.After-rows)
+    → let a = start (made c .before) .args in
+    let r = made c .settle .result in
+    let n = c .rows .result in
+    SettledTo (a .profile .now) (a .table .now) (freshDevices (a .table .now)) (take n (r .signal)) (take n (r .weak)) (take n (r .strong)) (r .answer)
+entries c =
+    let told = initial-tells (made c .settle .ensures) in
+    rw (← c .rows .ensures) at (told .done (accepted-told told (start (made c .before) .pre .0)))
+
 settled-requires : tie.Need-settled-requires
 settled-requires c κs =
-    let r = c .before .before .before .before in let s = start (made r .before) in omega (arith, rows-few s, s .pre .1)
+    let r = c .before .before .before .before in
+    let s = start (made r .before) in
+    let table = accepted-input (s .args .profile .now) (s .args .table .now) (s .pre .0) .1 in
+    (settled-to-at-most-15 (fresh-devices-valid (s .args .table .now) table) (entries r), omega (arith, table .few, s .pre .1))
 
 same-length : tie.Need-same-length
 same-length c = search needs
@@ -67,14 +84,8 @@ returns : tie.Need-returns
 unfolding runText
 returns c =
     let put = c .before .before in
-    let r = put .before .before .before .before .before in
-    let told = initial-tells (made r .settle .ensures) in
-    let s = told .done (accepted-told told (start (made r .before) .pre .0)) in
-    let first : (column : Bytes) → take (r .rows .result) column ≡ take (rows (start (made r .before) .args .table .now)) column = λ column. ap (λ n. take n column) (r .rows .ensures) in
-    let signal = first _ ∙ s .signals in
-    let weak = first _ ∙ s .weaks in
-    let strong = first _ ∙ s .strongs in
-    rw (← s .rounds, ← signal, ← weak, ← strong) (put .settled .ensures)
+    let e = entries (put .before .before .before .before .before) in
+    rw (← e .rounds, ← e .signals, ← e .weaks, ← e .strongs) (put .settled .ensures)
 
 pub settled-spec : {M : Type 1} → statement M
 settled-spec =

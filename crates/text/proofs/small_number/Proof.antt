@@ -1,4 +1,4 @@
--- `text::small_number` meets its contract: a byte has at most three digits. Assumes nothing.
+-- `text::small_number` meets its contract: a number below 100 has at most two digits. Assumes nothing.
 use Prim.Native.Nat.{_≤_}
 use native.Mathlib.Omega.{arith}
 use lib.ListN.{length, length-append}
@@ -8,8 +8,8 @@ use Rattle.text.proofs.Decimal.{decimal-few}
 use Rattle.text.proofs.small_number.Statement.{statement}
 use Rattle.text.proofs.small_number.Tie as tie
 
-few : (c : tie.Start) → length (decimalOf (c .args .n)) ≤ 3
-few c = decimal-few (c .args .n) 2 (omega (arith, c .fits .n))
+few : (c : tie.Start) → length (decimalOf (c .args .n)) ≤ 2
+few c = decimal-few (c .args .n) 1 (omega (arith, c .pre .0))
 
 digits-then-requires : tie.Need-digits-then-requires
 digits-then-requires c κs = omega (arith, few (c .before .before))
