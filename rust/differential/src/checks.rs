@@ -35,7 +35,7 @@ pub fn compare_case(case: &Case, actual: &dyn Answers<Check>, tally: &mut Tally)
     compare([Check], &Reading(case), actual, tally)
 }
 
-pub const ALTERATIONS: [Alteration<Check>; 12] = [
+pub const ALTERATIONS: [Alteration<Check>; 18] = [
     Alteration {
         function: "check",
         what: "a bad row's number is the next row's",
@@ -51,6 +51,62 @@ pub const ALTERATIONS: [Alteration<Check>; 12] = [
         alter: |_, _, answer| {
             if answer.refusal() == Some(5) {
                 answer.number -= i128::from(REFUSED);
+            }
+        },
+    },
+    Alteration {
+        function: "check",
+        what: "overdriven rows pass",
+        alter: |_, _, answer| {
+            if answer.refusal() == Some(10) {
+                answer.number = 0;
+            }
+        },
+    },
+    Alteration {
+        function: "check",
+        what: "an overdriven row is a bad row",
+        alter: |_, _, answer| {
+            if answer.refusal() == Some(10) {
+                answer.number -= 6 * i128::from(REFUSED);
+            }
+        },
+    },
+    Alteration {
+        function: "check",
+        what: "an overdriven row has no number",
+        alter: |_, _, answer| {
+            if answer.refusal() == Some(10) {
+                answer.number = 10 * i128::from(REFUSED);
+            }
+        },
+    },
+    Alteration {
+        function: "check",
+        what: "a level of 16 passes",
+        alter: |case, _, answer| {
+            if answer.refusal() == Some(10) {
+                *answer = with_levels(case, |level| if level == 16 { 15 } else { level });
+            }
+        },
+    },
+    Alteration {
+        function: "check",
+        what: "a level of 15 is overdriven",
+        alter: |case, _, answer| {
+            if answer.number == 0 {
+                *answer = with_levels(case, |level| if level == 15 { 16 } else { level });
+            }
+        },
+    },
+    Alteration {
+        function: "check",
+        what: "a lever is overdriven, too",
+        alter: |case, _, answer| {
+            if answer.number == 0 {
+                let mut case = case.clone();
+                case.rows_of(Kind::Lever).for_each(|row| row[12] = Kind::Comparator.code());
+                *answer = Probe(&case).answer(&Check);
             }
         },
     },
@@ -150,6 +206,10 @@ fn with_profile(case: &Case, change: impl Fn(&mut Vec<u8>)) -> Answer {
     let mut case = case.clone();
     change(&mut case.profile);
     Probe(&case).answer(&Check)
+}
+
+fn with_levels(case: &Case, change: impl Fn(u8) -> u8) -> Answer {
+    Probe(&case.with_levels(change)).answer(&Check)
 }
 
 const LEVER: usize = Kind::Lever.code() as usize;

@@ -8,11 +8,12 @@ use crate::random::Random;
 type Damage = (&'static str, fn(&mut Random, &mut Case));
 
 /// The sorts of damage, each with its share.
-const DAMAGES: [(usize, Damage); 17] = [
+const DAMAGES: [(usize, Damage); 18] = [
     (10, ("field byte", field_byte)),
     (10, ("kind", kind)),
     (10, ("value not given", value_not_given)),
     (10, ("given byte", given_byte)),
+    (20, ("level of a comparator", level_of_a_comparator)),
     (10, ("coordinate at or past the end", coordinate)),
     (10, ("table cut short", cut_short)),
     (10, ("table made longer", made_longer)),
@@ -61,9 +62,10 @@ fn field_byte(random: &mut Random, case: &mut Case) {
     set_byte(random, case, &places, &[0, 1, 2, 3, 4, 6, 7, 12, 13, 128, 254, 255, any]);
 }
 
-/// The kinds about the ends, of which a bulb is one where the profile has a byte for it.
+/// The kinds about the ends, of which a bulb is one where the profile has a byte for it, and a comparator, to which a level
+/// means more than to others.
 fn kind(random: &mut Random, case: &mut Case) {
-    set_byte(random, case, &[12], &[0, 1, 12, 13, 13, 14, 255]);
+    set_byte(random, case, &[12], &[0, 1, 6, 12, 13, 13, 14, 255]);
 }
 
 /// The byte that says "given" is 0 over a value that is not.
@@ -88,6 +90,30 @@ fn value_not_given(random: &mut Random, case: &mut Case) {
 fn given_byte(random: &mut Random, case: &mut Case) {
     let any = random.byte();
     set_byte(random, case, &[15, 17, 19, 23], &[0, 1, 2, 255, any]);
+}
+
+/// A level about the last and above it, on up to three comparators, or on rows that become such.
+fn level_of_a_comparator(random: &mut Random, case: &mut Case) {
+    for _ in 0..random.pick(&[1, 1, 2, 3]) {
+        let Some(row) = comparator(random, case).or_else(|| any_row(random, case)) else { return };
+        case.table[row + 12] = Kind::Comparator.code();
+        case.table[row + 15] = 1;
+        case.table[row + 16] = overdriven_level(random);
+    }
+}
+
+/// Most often a level above 15.
+pub fn overdriven_level(random: &mut Random) -> u8 {
+    let any = random.byte();
+    random.pick(&[15, 16, 17, 31, 127, 128, 200, 254, 255, any])
+}
+
+/// The first byte of a comparator's row, if there is one.
+fn comparator(random: &mut Random, case: &Case) -> Option<usize> {
+    let rows = case.table.chunks_exact(ROW_BYTES).enumerate();
+    let comparators = rows.filter(|(_, row)| row[12] == Kind::Comparator.code());
+    let places: Vec<_> = comparators.map(|(row, _)| ROW_BYTES * row).collect();
+    (!places.is_empty()).then(|| random.pick(&places))
 }
 
 fn coordinate(random: &mut Random, case: &mut Case) {

@@ -16,7 +16,7 @@ pub fn is_switch(row: &Row) -> bool {
 pub fn any_device(random: &mut Random, kind: Kind) -> u8 {
     match kind {
         Kind::Repeater | Kind::RedstoneTorch => random.byte_below(2),
-        Kind::Comparator => random.byte(),
+        Kind::Comparator => random.byte_below(16),
         _ => 0,
     }
 }

@@ -1,6 +1,7 @@
 //! Accepted tables and profiles from a seed.
 
 mod bulbs;
+mod comparators;
 mod rows;
 mod sorts;
 mod torches;
@@ -65,6 +66,18 @@ impl Case {
         case
     }
 
+    /// The bytes of the rows of a kind.
+    pub fn rows_of(&mut self, kind: Kind) -> impl Iterator<Item = &mut [u8]> {
+        self.table.chunks_exact_mut(ROW_BYTES).filter(move |row| row[12] == kind.code())
+    }
+
+    /// The same case with other levels of its comparators.
+    pub fn with_levels(&self, change: impl Fn(u8) -> u8) -> Self {
+        let mut case = self.clone();
+        case.rows_of(Kind::Comparator).for_each(|row| row[16] = change(row[16]));
+        case
+    }
+
     /// Whether the profile, which need not be accepted, has as many bytes as one with the bulb's.
     pub fn has_byte_of_the_bulb(&self) -> bool {
         self.profile.len() == PROFILE_BYTES_WITH_BULB
@@ -96,7 +109,7 @@ fn hex(bytes: &[u8]) -> String {
 type Sort = (&'static str, fn(&mut Random) -> Vec<Row>);
 
 /// The sorts of table, each with its share.
-const SORTS: [(usize, Sort); 11] = [
+const SORTS: [(usize, Sort); 12] = [
     (5, ("no rows", |_| Vec::new())),
     (190, ("dense box", sorts::dense_box)),
     (130, ("dust line", sorts::dust_line)),
@@ -105,6 +118,7 @@ const SORTS: [(usize, Sort); 11] = [
     (120, ("torches", torches::torches)),
     (200, ("bulbs", bulbs::bulbs)),
     (60, ("clock", sorts::clock)),
+    (110, ("comparators", comparators::comparators)),
     (45, ("sparse", sorts::sparse)),
     (9, ("hundreds of rows", sorts::large_box)),
     (1, ("1,024 rows", sorts::full_box)),

@@ -29,13 +29,17 @@ pub fn world(profile: &[u8], rows: &[Row]) -> Profiled<World> {
 
 impl<'a> Oracle<'a> {
     pub fn new(case: &'a Case) -> Self {
-        let refusal = refusals::check(&case.profile, &case.table);
-        let (profile, rows) = match refusal {
-            Ok(()) => (&case.profile[..], table::rows(&case.table)),
-            Err(_) => (&[][..], Vec::new()),
-        };
-        let world = world(profile, &rows);
-        Self { case, refusal, rows, world }
+        match refusals::check(&case.profile, &case.table) {
+            Ok(()) => Self::of_any_levels(case),
+            refusal => Self { case, refusal, rows: Vec::new(), world: world(&[], &[]) },
+        }
+    }
+
+    /// The original's world for a case that number 10 alone may refuse: to the original no comparator is overdriven.
+    pub fn of_any_levels(case: &'a Case) -> Self {
+        let rows = table::rows(&case.table);
+        let world = world(&case.profile, &rows);
+        Self { case, refusal: Ok(()), rows, world }
     }
 
     /// The world, with this case's profile in force.

@@ -9,7 +9,7 @@ mod state;
 
 use original::electrical::{InstantaneousElectricalState, PoweredBlockState, solve_instantaneous};
 use original::world::World;
-use redstone::{Columns, ROW_BYTES, Rounds, STATE_BYTES};
+use redstone::{Columns, ROW_BYTES, Rounds};
 
 use crate::bulb::READING;
 use crate::compare::{Answer, Answers, Compared, Query, Tally, compare};
@@ -17,7 +17,7 @@ use crate::generate::Case;
 use crate::lent::Lent;
 use crate::oracle::{Oracle, pos};
 use crate::probe::{Probe, answered};
-use crate::refusals::{self, Refusal};
+use crate::refusals::{Asked, Devices, ORDER, Refusal, Written, refuse};
 use crate::table::Position;
 
 pub use alterations::ALTERATIONS;
@@ -45,6 +45,30 @@ pub enum Input {
     Settle { devices: Vec<u8>, limit: u32 },
     Tick { state: Vec<u8>, tick: u32, ticks: u32 },
     Switch { state: Vec<u8>, at: Position, powered: bool },
+}
+
+impl Call {
+    /// What a refusal may fall on.
+    pub fn asked<'a>(&'a self, case: &'a Case) -> Asked<'a> {
+        let columns = self.columns.map(Written::column);
+        let asked = Asked { lent: columns.to_vec(), ..Asked::new(&case.profile, &case.table) };
+        match &self.input {
+            Input::Fresh { state_bytes } => {
+                let state = Written::state(*state_bytes);
+                Asked { lent: [state].into_iter().chain(columns).collect(), ..asked }
+            }
+            Input::Settle { devices, .. } => Asked { devices: Some(Devices::column(devices)), ..asked },
+            Input::Tick { state, tick, ticks } => {
+                Asked { devices: Some(Devices::state(state)), clock: Some([*tick, *ticks]), ..asked }
+            }
+            Input::Switch { state, .. } => Asked { devices: Some(Devices::state(state)), ..asked },
+        }
+    }
+
+    /// The answer of a call that is refused with such a code: every buffer comes back as it was lent.
+    pub fn refused(&self, case: &Case, code: u32) -> Answer {
+        Buffers::for_call(case, self).answer(code)
+    }
 }
 
 impl Query for Call {
@@ -142,22 +166,11 @@ impl Oracle<'_> {
         table: &mut [u8],
         state: &mut [u8],
     ) -> Result<InstantaneousElectricalState, Refusal> {
-        self.refusal?;
-        match call.input {
-            Input::Settle { .. } => refusals::devices(table, state)?,
-            Input::Tick { .. } | Input::Switch { .. } => refusals::state(table, state)?,
-            Input::Fresh { state_bytes } => refusals::column(table, state_bytes, STATE_BYTES)?,
-        }
-        for entries in call.columns {
-            refusals::column(table, entries, 1)?;
-        }
+        refuse(&ORDER, &call.asked(self.case))?;
         match call.input {
             Input::Fresh { .. } => Ok(self.fresh(state)),
             Input::Settle { limit, .. } => self.settle(state, limit),
-            Input::Tick { tick, ticks, .. } => {
-                refusals::clock(tick, ticks)?;
-                Ok(self.tick(state, ticks))
-            }
+            Input::Tick { ticks, .. } => Ok(self.tick(state, ticks)),
             Input::Switch { at, powered, .. } => Ok(self.switch(state, at, powered, table)),
         }
     }

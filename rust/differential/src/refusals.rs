@@ -8,6 +8,7 @@ const ROW_BYTES: usize = 32;
 const STATE_BYTES: usize = 16;
 const MOST_ROWS: usize = 1024;
 const FARTHEST: i32 = 1_000_000;
+const HIGHEST_LEVEL: u8 = 15;
 
 /// What a refusal's number is multiplied by; a lower answer is no refusal.
 pub const REFUSED: u32 = 65_536;
@@ -32,46 +33,140 @@ impl From<redstone::Refusal> for Refusal {
 
 type Checked = Result<(), Refusal>;
 
-fn refuse_if(refused: bool, number: u32) -> Checked {
-    refuse_first(number, refused.then_some(0))
+/// What a call is asked, as far as a refusal may fall on it before it settles.
+#[derive(Clone, Debug)]
+pub struct Asked<'a> {
+    pub profile: &'a [u8],
+    pub table: &'a [u8],
+    /// What the call reads of devices, if it does.
+    pub devices: Option<Devices<'a>>,
+    /// The buffers that are lent to be written for each row.
+    pub lent: Vec<Written>,
+    /// The tick's number, and the ticks asked for.
+    pub clock: Option<[u32; 2]>,
 }
 
-fn refuse_first(number: u32, row: Option<usize>) -> Checked {
-    row.map_or(Ok(()), |row| Err(Refusal { number, row }))
+impl<'a> Asked<'a> {
+    /// By a call that has a profile and a table alone.
+    pub fn new(profile: &'a [u8], table: &'a [u8]) -> Self {
+        Self { profile, table, devices: None, lent: Vec::new(), clock: None }
+    }
 }
 
-/// Numbers 1 to 5, which fall on the profile and the table of every call that has them.
+/// A device column or a state.
+#[derive(Clone, Copy, Debug)]
+pub struct Devices<'a> {
+    pub bytes: &'a [u8],
+    /// The bytes of a row, of which the first is the device byte: a column has no other.
+    pub width: usize,
+}
+
+impl<'a> Devices<'a> {
+    pub fn column(bytes: &'a [u8]) -> Self {
+        Self { bytes, width: 1 }
+    }
+
+    pub fn state(bytes: &'a [u8]) -> Self {
+        Self { bytes, width: STATE_BYTES }
+    }
+
+    pub fn rows(self) -> impl Iterator<Item = &'a [u8]> {
+        self.bytes.chunks_exact(self.width)
+    }
+}
+
+/// The length of a buffer, and the entries of it that are a row's.
+#[derive(Clone, Copy, Debug)]
+pub struct Written {
+    pub entries: usize,
+    pub width: usize,
+}
+
+impl Written {
+    pub fn column(entries: usize) -> Self {
+        Self { entries, width: 1 }
+    }
+
+    pub fn state(entries: usize) -> Self {
+        Self { entries, width: STATE_BYTES }
+    }
+}
+
+/// A test: the number with which it refuses, and the row at fault, or 0 where no row is.
+#[derive(Clone, Copy)]
+pub struct Test {
+    pub number: u32,
+    pub fault: fn(&Asked) -> Option<usize>,
+}
+
+pub type Order = [Test; 11];
+
+/// The tests in their order: "4 over all rows before 5, in 6 length before value", and 10 "on rows just after 5 and on a
+/// column or state just after 6". Number 8, which settling alone gives, comes after them.
+pub const ORDER: Order = [
+    Test { number: 1, fault: |asked| at_no_row(!good_profile(asked.profile)) },
+    Test { number: 2, fault: |asked| at_no_row(!asked.table.len().is_multiple_of(ROW_BYTES)) },
+    Test { number: 3, fault: |asked| at_no_row(row_count(asked.table) > MOST_ROWS) },
+    Test { number: 4, fault: |asked| rows(asked.table).position(|row| !good_row(asked.profile, row)) },
+    Test { number: 5, fault: |asked| (1..row_count(asked.table)).find(|row| misplaced(asked.table, *row)) },
+    Test { number: 10, fault: |asked| rows(asked.table).position(overdriven) },
+    Test {
+        number: 6,
+        fault: |asked| at_no_row(asked.devices.is_some_and(|devices| wrong_length(asked, devices))),
+    },
+    Test { number: 6, fault: |asked| asked.devices.and_then(|devices| bad_device(asked.table, devices)) },
+    Test { number: 10, fault: |asked| asked.devices.and_then(overdriven_device) },
+    Test { number: 7, fault: |asked| at_no_row(asked.lent.iter().any(|lent| wrong_column(asked, *lent))) },
+    Test { number: 9, fault: |asked| at_no_row(asked.clock.is_some_and(past_the_last_tick)) },
+];
+
+/// The first of the tests that finds a fault refuses.
+pub fn refuse(order: &[Test], asked: &Asked) -> Checked {
+    let refusal = |test: &Test| Some(Refusal { number: test.number, row: (test.fault)(asked)? });
+    order.iter().find_map(refusal).map_or(Ok(()), Err)
+}
+
+/// What falls on the profile and the table of every call that has them.
 pub fn check(profile: &[u8], table: &[u8]) -> Checked {
-    refuse_if(!good_profile(profile), 1)?;
-    refuse_if(!table.len().is_multiple_of(ROW_BYTES), 2)?;
-    refuse_if(row_count(table) > MOST_ROWS, 3)?;
-    refuse_first(4, rows(table).position(|row| !good_row(profile, row)))?;
-    let misplaced = |row: &usize| position(table, row - 1) >= position(table, *row);
-    refuse_first(5, (1..row_count(table)).find(misplaced))
+    refuse(&ORDER, &Asked::new(profile, table))
 }
 
-/// Number 6 on a device column.
-pub fn devices(table: &[u8], devices: &[u8]) -> Checked {
-    refuse_if(devices.len() != row_count(table), 6)?;
-    let bad = |(row, device): (&[u8], &u8)| *device > highest_device_byte(row[12]);
-    refuse_first(6, rows(table).zip(devices).position(bad))
+fn at_no_row(fault: bool) -> Option<usize> {
+    fault.then_some(0)
 }
 
-/// Number 6 on a state.
-pub fn state(table: &[u8], state: &[u8]) -> Checked {
-    refuse_if(state.len() != STATE_BYTES * row_count(table), 6)?;
-    let bad = |(row, state): (&[u8], &[u8])| !good_state(row, state);
-    refuse_first(6, rows(table).zip(state.chunks_exact(STATE_BYTES)).position(bad))
+fn misplaced(table: &[u8], row: usize) -> bool {
+    position(table, row - 1) >= position(table, row)
 }
 
-/// Number 7 on an output column of one entry a row, and on fresh's state of sixteen.
-pub fn column(table: &[u8], length: usize, entry: usize) -> Checked {
-    refuse_if(length != entry * row_count(table), 7)
+/// Document 02, Change 5: "comparator rows with a given level above 15".
+fn overdriven(row: &[u8]) -> bool {
+    row[12] == Kind::Comparator.code() && row[15] == 1 && row[16] > HIGHEST_LEVEL
 }
 
-/// Number 9.
-pub fn clock(tick: u32, ticks: u32) -> Checked {
-    refuse_if(u64::from(tick) + u64::from(ticks) > 4_294_967_295, 9)
+fn wrong_length(asked: &Asked, devices: Devices) -> bool {
+    devices.bytes.len() != devices.width * row_count(asked.table)
+}
+
+fn bad_device(table: &[u8], devices: Devices) -> Option<usize> {
+    let bad = |(row, entry): (&[u8], &[u8])| match entry {
+        [device] => *device > highest_device_byte(row[12]),
+        state => !good_state(row, state),
+    };
+    rows(table).zip(devices.rows()).position(bad)
+}
+
+/// "Device bytes above 15", which are a comparator's: of another kind they are bad.
+fn overdriven_device(devices: Devices) -> Option<usize> {
+    devices.rows().position(|entry| entry[0] > HIGHEST_LEVEL)
+}
+
+fn wrong_column(asked: &Asked, lent: Written) -> bool {
+    lent.entries != lent.width * row_count(asked.table)
+}
+
+fn past_the_last_tick([tick, ticks]: [u32; 2]) -> bool {
+    u64::from(tick) + u64::from(ticks) > 4_294_967_295
 }
 
 fn row_count(table: &[u8]) -> usize {
@@ -124,7 +219,8 @@ fn good_row(profile: &[u8], row: &[u8]) -> bool {
 fn highest_device_byte(kind: u8) -> u8 {
     match Kind::try_from(kind) {
         Ok(Kind::Repeater | Kind::RedstoneTorch) => 1,
-        Ok(Kind::Comparator) => 255,
+        // What is past its levels is overdriven, and not bad.
+        Ok(Kind::Comparator) => u8::MAX,
         _ => 0,
     }
 }

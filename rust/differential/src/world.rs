@@ -15,7 +15,7 @@ use crate::probe::{
     NOTHING_THERE, Probe, answered, probe_find, probe_horizontal_offset, probe_kind_at, probe_offset,
     probe_opposite, probe_properties, probe_shape_of_name, probe_support_issues, probe_traits,
 };
-use crate::refusals::{self, Refusal};
+use crate::refusals::{Asked, ORDER, Refusal, Written, refuse};
 use crate::table::Position;
 
 pub use alterations::ALTERATIONS;
@@ -169,14 +169,18 @@ impl Oracle<'_> {
     }
 
     fn support_issues(&self, column: &mut [u16]) -> Result<u32, Refusal> {
-        self.refusal?;
-        refusals::column(&self.case.table, column.len(), 1)?;
+        refuse(&ORDER, &supports_asked(self.case, column.len()))?;
         let issues = self.world().support_issues();
         for (entry, (at, ..)) in column.iter_mut().zip(&issues) {
             *entry = self.row_at(*at) as u16;
         }
         Ok(issues.len() as u32)
     }
+}
+
+/// What a refusal of the support list may fall on.
+pub fn supports_asked(case: &Case, entries: usize) -> Asked<'_> {
+    Asked { lent: vec![Written::column(entries)], ..Asked::new(&case.profile, &case.table) }
 }
 
 fn sum_of_bits(bits: [bool; 5]) -> u32 {

@@ -33,7 +33,7 @@ mod compared {
         let calls = setting("DIFF_CALLS", CALLS).max(CALLS);
         let tally = assert_compared("redstone", compare_many(calls, compare_case));
         let rounds = (1..=17).map(|rounds| ("rounds", rounds));
-        let refusals = (1..=9).map(|refusal| ("refusal", refusal));
+        let refusals = (1..=10).map(|refusal| ("refusal", refusal));
         let missing: Vec<_> =
             rounds.chain(refusals).filter(|answer| !tally.answers.contains_key(answer)).collect();
         assert!(missing.is_empty(), "not among the answers: {missing:?}");

@@ -1,4 +1,4 @@
-//! Refusals 1 to 5 on accepted and damaged tables.
+//! Refusals 1 to 5, and 10 on rows, on accepted and damaged tables.
 
 use differential::checks::{ALTERATIONS, compare_case};
 use differential::generate::{self, BENCH_PROFILE, Case};

@@ -336,16 +336,16 @@ pub const TRIALS: [Trial; 34] = [
               row=0,0,8,15,0,0\nrow=0,1,8,0,0,0\ntick 1\nlamp=0,0,0,1\nlamp=0,0,4,0\nhad_power=0,0,4,0\nlamp=0,1,8,0\n",
     },
     Trial {
-        what: "a comparator of any level",
+        what: "comparators of the lowest level and the highest",
         rows: "0,0,0 RedstoneBlock\n1,0,0 Comparator facing=East level=0\n2,0,0 CopperBulb\n\
-               4,0,0 Comparator facing=East level=200\n5,0,0 CopperBulb\n",
-        run: "had_power=2,0,0,0\nrow=5,0,0,0,0,200\nhad_power=5,0,0,1\ntick 1\nrow=2,0,0,0,0,15\nlamp=2,0,0,1\n\
+               4,0,0 Comparator facing=East level=15\n5,0,0 CopperBulb\n",
+        run: "had_power=2,0,0,0\nrow=5,0,0,0,0,15\nhad_power=5,0,0,1\ntick 1\nrow=2,0,0,0,0,15\nlamp=2,0,0,1\n\
               row=5,0,0,0,0,0\nlamp=5,0,0,0\nhad_power=5,0,0,0\n",
     },
     Trial {
-        what: "a comparator of a level past 15 that stays",
-        rows: "0,0,0 Comparator facing=East level=200\n1,0,0 Solid\n2,0,0 Comparator facing=East\n3,0,0 CopperBulb\n",
-        run: "row=1,0,0,0,0,200\nhad_power=3,0,0,0\ntick 1\nrow=3,0,0,0,0,200\nlamp=3,0,0,1\nhad_power=3,0,0,1\ntick 1\n\
+        what: "a comparator's level that goes on through a block and another comparator",
+        rows: "0,0,0 Comparator facing=East level=9\n1,0,0 Solid\n2,0,0 Comparator facing=East\n3,0,0 CopperBulb\n",
+        run: "row=1,0,0,0,0,9\nhad_power=3,0,0,0\ntick 1\nrow=3,0,0,0,0,9\nlamp=3,0,0,1\nhad_power=3,0,0,1\ntick 1\n\
               row=3,0,0,0,0,0\nlamp=3,0,0,1\nhad_power=3,0,0,0\n",
     },
     Trial {

@@ -18,7 +18,7 @@ pub fn any_row(random: &mut Random, position: Position) -> Row {
     Row::new(kind, position)
         .with_facing(any_facing(random))
         .with_powered(random.pick(&[None, Some(false), Some(true)]))
-        .with_power_level(random.sometimes(35, any_level))
+        .with_power_level(random.sometimes(35, |random| any_level(random, kind)))
         .with_delay(random.sometimes(35, any_delay))
         .with_support(random.sometimes(65, any_step))
         .with_arms(random.sometimes(20, any_arms))
@@ -31,9 +31,13 @@ fn any_facing(random: &mut Random) -> Option<Facing> {
     Facing::try_from(random.pick(&[0, 1, 1, 2, 2, 3, 3, 4, 4, 5, 6])).ok()
 }
 
-fn any_level(random: &mut Random) -> u8 {
+/// A comparator's ends at 15.
+pub fn any_level(random: &mut Random, kind: Kind) -> u8 {
     let any = random.byte();
-    random.pick(&[0, 1, 2, 7, 14, 15, 16, 200, 255, any])
+    match kind {
+        Kind::Comparator => random.pick(&[0, 1, 2, 7, 14, 15, any % 16]),
+        _ => random.pick(&[0, 1, 2, 7, 14, 15, 16, 200, 255, any]),
+    }
 }
 
 pub fn any_delay(random: &mut Random) -> u8 {
@@ -77,7 +81,7 @@ pub fn source(random: &mut Random, position: Position) -> Row {
     Row::new(kind, position)
         .with_facing(random.pick(&Facing::ALL[..4]))
         .with_powered(random.pick(&[None, Some(false), Some(true), Some(true), Some(true)]))
-        .with_power_level(random.sometimes(50, any_level))
+        .with_power_level(random.sometimes(50, |random| any_level(random, kind)))
         .with_delay(random.sometimes(50, any_delay))
         .with_support(any_step(random))
         .with_subtract(random.percent(30))

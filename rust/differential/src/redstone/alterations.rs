@@ -7,8 +7,9 @@ use crate::compare::{Alteration, Answer, Answers};
 use crate::generate::Case;
 use crate::lent::Lent;
 use crate::probe::Probe;
+use crate::refusals::REFUSED;
 
-pub const ALTERATIONS: [Alteration<Call>; 21] = [
+pub const ALTERATIONS: [Alteration<Call>; 27] = [
     Alteration {
         function: "fresh",
         what: "no lamp is lit",
@@ -100,11 +101,67 @@ pub const ALTERATIONS: [Alteration<Call>; 21] = [
     },
     Alteration {
         function: "switch",
-        what: "signals end at 15",
+        what: "signals end at 14",
         alter: |_, _, answer| {
             if answer.refusal().is_none() {
                 let signals = answer.buffers[SIGNAL].entries.iter_mut();
-                signals.for_each(|signal| *signal = (*signal).min(15));
+                signals.for_each(|signal| *signal = (*signal).min(14));
+            }
+        },
+    },
+    Alteration {
+        function: "fresh",
+        what: "comparators with a level above 15 are clipped",
+        alter: |case, call, answer| {
+            if answer.refusal() == Some(10) {
+                *answer = Probe(&case.with_levels(|level| level.min(15))).answer(call);
+            }
+        },
+    },
+    Alteration {
+        function: "settle",
+        what: "device bytes above 15 are clipped",
+        alter: |case, call, answer| {
+            if let (Input::Settle { devices, limit }, Some(10)) = (&call.input, answer.refusal()) {
+                let devices = devices.iter().map(|device| (*device).min(15)).collect();
+                let input = Input::Settle { devices, limit: *limit };
+                *answer = Probe(case).answer(&Call { input, ..call.clone() });
+            }
+        },
+    },
+    Alteration {
+        function: "settle",
+        what: "an overdriven column is a bad one",
+        alter: |_, _, answer| {
+            if answer.refusal() == Some(10) {
+                answer.number -= 4 * i128::from(REFUSED);
+            }
+        },
+    },
+    Alteration {
+        function: "tick",
+        what: "an overdriven state is ticked",
+        alter: |_, _, answer| {
+            if answer.refusal() == Some(10) {
+                answer.number = 2;
+            }
+        },
+    },
+    Alteration {
+        function: "tick",
+        what: "the row of an overdriven state is the next",
+        alter: |_, _, answer| {
+            if answer.refusal() == Some(10) {
+                answer.number += 1;
+            }
+        },
+    },
+    Alteration {
+        function: "switch",
+        what: "an overdriven state has no row",
+        alter: |_, _, answer| {
+            if answer.refusal() == Some(10) {
+                answer.number = 10 * i128::from(REFUSED);
             }
         },
     },

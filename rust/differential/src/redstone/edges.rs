@@ -23,8 +23,8 @@ fn smalls(sort: &'static str) -> [Case; 2] {
     [with_bulb, without]
 }
 
-/// A lever on a lamp feeds a dust on such a block through a repeater and a comparator, and a torch that hangs on the dust
-/// charges the block over it.
+/// A lever on a lamp feeds a dust on such a block through a repeater and a comparator that has a level, and a torch that
+/// hangs on the dust charges the block over it.
 fn small(sort: &'static str, under_the_dust: Kind) -> Case {
     let lever = Row::new(Kind::Lever, [0, 1, 0]).with_support([0, -1, 0]);
     let east = |x, kind| Row::new(kind, [x, 1, 0]).with_facing(Facing::East);
@@ -33,7 +33,7 @@ fn small(sort: &'static str, under_the_dust: Kind) -> Case {
         Row::new(Kind::RedstoneLamp, [0, 0, 0]),
         lever.with_powered(true).with_power_level(9),
         east(1, Kind::Repeater).with_delay(3),
-        east(2, Kind::Comparator).with_subtract(true),
+        east(2, Kind::Comparator).with_subtract(true).with_power_level(12),
         Row::new(under_the_dust, [3, 0, 0]).with_powered(true),
         Row::new(Kind::RedstoneWire, [3, 1, 0]).with_arms(arms),
         Row::new(Kind::RedstoneTorch, [3, 1, 1]).with_support([0, 0, -1]),
@@ -42,7 +42,8 @@ fn small(sort: &'static str, under_the_dust: Kind) -> Case {
     case(sort, rows).with_torch_charging(true)
 }
 
-/// The number of its last row.
+/// The numbers of its comparator's row and of its last.
+const COMPARATOR: usize = 3;
 const LAST: usize = 7;
 
 /// A line of as many blocks, of every kind.
@@ -156,7 +157,7 @@ fn pairs_of_faults() -> impl Iterator<Item = Asked> {
     })
 }
 
-const FAULTS: [fn(&mut Asked); 24] = [
+const FAULTS: [fn(&mut Asked); 27] = [
     |asked| resize(asked, 0, -1),
     |asked| resize(asked, 0, 1),
     |asked| resize(asked, 0, -2),
@@ -173,10 +174,13 @@ const FAULTS: [fn(&mut Asked); 24] = [
     |(case, _)| set(&mut case.table, LAST * ROW_BYTES + 31, 1),
     |(case, _)| case.table.copy_within(..12, LAST * ROW_BYTES),
     |(case, _)| case.table.copy_within(2 * ROW_BYTES.., ROW_BYTES),
+    |(case, _)| set(&mut case.table, COMPARATOR * ROW_BYTES + 16, 16),
     |asked| resize(asked, 2, -1),
     |asked| resize(asked, 2, 1),
     |(_, call)| damage_state(&mut call.input, 0),
     |(_, call)| damage_state(&mut call.input, LAST),
+    |(_, call)| overdrive(&mut call.input, 16),
+    |(_, call)| overdrive(&mut call.input, 255),
     |asked| resize(asked, 3, -1),
     |asked| resize(asked, 4, 1),
     |asked| resize(asked, 5, -1),
@@ -198,6 +202,16 @@ fn damage_state(input: &mut Input, row: usize) {
         Input::Fresh { .. } => {}
         Input::Settle { devices, .. } => set(devices, row, 2),
         Input::Tick { state, .. } | Input::Switch { state, .. } => set(state, STATE_BYTES * row + 15, 1),
+    }
+}
+
+fn overdrive(input: &mut Input, level: u8) {
+    match input {
+        Input::Fresh { .. } => {}
+        Input::Settle { devices, .. } => set(devices, COMPARATOR, level),
+        Input::Tick { state, .. } | Input::Switch { state, .. } => {
+            set(state, STATE_BYTES * COMPARATOR, level);
+        }
     }
 }
 
@@ -252,7 +266,7 @@ fn row_states() -> Vec<[u8; STATE_BYTES]> {
         bytes.iter().for_each(|(at, byte)| state[*at] = *byte);
         states.push(state);
     };
-    for device in [0, 1, 2, 255] {
+    for device in [0, 1, 2, 15, 16, 255] {
         (0..=17).chain([255]).for_each(|queue| state(&[(0, device), (1, queue)]));
     }
     for lit in 0..=2 {

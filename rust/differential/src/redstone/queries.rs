@@ -4,6 +4,7 @@ use original::electrical::DeviceOutputState;
 use redstone::{Kind, Row, STATE_BYTES};
 
 use super::{Call, Input, SETTLES};
+use crate::damage::overdriven_level;
 use crate::devices::{any_device, any_devices, is_switch};
 use crate::generate::Case;
 use crate::oracle::{Oracle, pos};
@@ -21,7 +22,7 @@ pub fn queries(case: &Case, oracle: &Oracle) -> Vec<Call> {
         Err(_) => refused_inputs(rows),
     };
     let fresh = Input::Fresh { state_bytes: STATE_BYTES * rows };
-    let call = |input| damaged_sometimes(&mut random, Call { input, columns: [rows; 3] });
+    let call = |input| damaged_sometimes(&mut random, &oracle.rows, Call { input, columns: [rows; 3] });
     inputs.into_iter().chain([fresh]).map(call).collect()
 }
 
@@ -153,8 +154,11 @@ pub fn any_position(random: &mut Random, oracle: &Oracle) -> Position {
     }
 }
 
-/// Most calls as they are; of the others a length or a byte is changed.
-fn damaged_sometimes(random: &mut Random, mut call: Call) -> Call {
+/// Most calls as they are; of the others a length, a byte or a comparator's level is changed.
+fn damaged_sometimes(random: &mut Random, rows: &[Row], mut call: Call) -> Call {
+    if random.percent(10) {
+        overdrive(random, rows, &mut call.input);
+    }
     if random.percent(8) {
         let column = random.below(3);
         call.columns[column] = other_length(random, call.columns[column]);
@@ -168,6 +172,22 @@ fn damaged_sometimes(random: &mut Random, mut call: Call) -> Call {
         }
     }
     call
+}
+
+/// A level about the last and above it, on up to three comparators, if there are any.
+fn overdrive(random: &mut Random, rows: &[Row], input: &mut Input) {
+    let (bytes, width) = match input {
+        Input::Fresh { .. } => return,
+        Input::Settle { devices, .. } => (devices, 1),
+        Input::Tick { state, .. } | Input::Switch { state, .. } => (state, STATE_BYTES),
+    };
+    let mut comparators: Vec<_> =
+        rows.iter().enumerate().filter(|(_, row)| row.kind() == Kind::Comparator).collect();
+    let most = random.pick(&[1, 1, 2, 3]);
+    random.keep(&mut comparators, most);
+    for (row, _) in comparators {
+        bytes[width * row] = overdriven_level(random);
+    }
 }
 
 fn other_length(random: &mut Random, length: usize) -> usize {

@@ -293,10 +293,10 @@ pub const TRIALS: [Trial; 31] = [
     },
     Trial {
         what: "of several charges the largest",
-        rows: "-1,1,0 Comparator facing=East level=200\n0,0,0 RedstoneTorch\n0,1,0 Solid\n4,0,0 RedstoneTorch\n\
+        rows: "-1,1,0 Comparator facing=East level=9\n0,0,0 RedstoneTorch\n0,1,0 Solid\n4,0,0 RedstoneTorch\n\
                 4,1,0 Solid\n4,2,0 Lever support=0,-1,0 powered=true level=7\n",
-        without: "row=0,1,0,0,0,200\nrow=4,1,0,0,0,7\n",
-        with: "row=0,1,0,0,0,200\nrow=4,1,0,0,0,15\n",
+        without: "row=0,1,0,0,0,9\nrow=4,1,0,0,0,7\n",
+        with: "row=0,1,0,0,0,15\nrow=4,1,0,0,0,15\n",
     },
     Trial {
         what: "the highest block that there is",
