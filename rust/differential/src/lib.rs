@@ -1,8 +1,10 @@
 //! Holds the proved functions of the static libraries `probe` and `redstone`, and the programs `settle` and `month`,
-//! against the original Rust, and look-ups on rows in any order, what a torch charges and the light of bulbs against
-//! document 02.
+//! against the original Rust, and look-ups on rows in any order, what a torch charges, the light of bulbs and what is
+//! overdriven against document 02.
 
 pub mod bulb;
+#[cfg(not(no_original))]
+pub mod calls;
 pub mod checks;
 pub mod compare;
 #[cfg(not(no_original))]
@@ -18,6 +20,8 @@ pub mod look_up;
 pub mod month;
 #[cfg(not(no_original))]
 pub mod oracle;
+#[cfg(not(no_original))]
+pub mod overdriven;
 pub mod positions;
 pub mod probe;
 pub mod program;

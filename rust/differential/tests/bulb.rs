@@ -141,6 +141,7 @@ fn the_original_was_not_found() {
 #[cfg(not(no_original))]
 mod compared {
     use differential::bulb::{MISREADINGS, beside_every_kind};
+    use differential::calls::six_calls_on;
     use differential::compare::{Answer, Answers, Tally, compare, run};
     use differential::differences::{by_original, by_reading};
     use differential::generate::{self, Case};
@@ -152,8 +153,6 @@ mod compared {
     };
     use differential::suite::{assert_compared, at_least_good_cases};
     use differential::table;
-    use differential::wire::WireQuery;
-    use differential::world::WorldQuery;
     use redstone::{Kind, ROW_BYTES, STATE_BYTES};
 
     use super::*;
@@ -323,23 +322,10 @@ mod compared {
     /// Asserts that the six calls answer as the original does, and that each refuses with this number and row, if any. The
     /// buffers that are lent and the guards around them are among the answers.
     fn assert_six_calls(case: &Case, refused: Option<[u32; 2]>) {
-        let (oracle, probe, rows) = (Oracle::new(case), Probe(case), case.rows());
-        let state = vec![0; STATE_BYTES * rows];
-        let calls = [
-            Input::Fresh { state_bytes: STATE_BYTES * rows },
-            Input::Settle { devices: vec![0; rows], limit: 128 },
-            Input::Tick { state: state.clone(), tick: 0, ticks: 1 },
-            Input::Switch { state, at: [0; 3], powered: true },
-        ];
-        let calls = calls.map(|input| Call { input, columns: [rows; 3] });
-        let supports = WorldQuery::SupportIssues { entries: rows };
-        let pairs = calls.iter().map(|call| [probe.answer(call), oracle.answer(call)]);
-        let pairs = pairs.chain([
-            [probe.answer(&WireQuery::Redraw), oracle.answer(&WireQuery::Redraw)],
-            [probe.answer(&supports), oracle.answer(&supports)],
-        ]);
-        for [proved, original] in pairs {
-            assert_eq!(proved, original, "{case}");
+        let (oracle, probe) = (Oracle::new(case), Probe(case));
+        for call in six_calls_on(case) {
+            let proved = probe.answer(&call);
+            assert_eq!(proved, oracle.answer(&call), "{case}");
             let code = refused.map(|[number, row]| i128::from(65_536 * number + row));
             assert_eq!(proved.refusal().map(|_| proved.number), code, "{case}");
         }
