@@ -36,10 +36,14 @@ fn the_bench_answers_as_is_written() {
 }
 
 #[cfg(not(no_original))]
+fn check_original(document: &str) -> Result<usize, Fault> {
+    check_each(document, differential::differences::by_original)
+}
+
+#[cfg(not(no_original))]
 #[test]
 fn the_original_answers_as_is_written() {
-    let checked = check_each(&document(), differential::differences::by_original);
-    assert_checked("original", checked);
+    assert_checked("original", check_original(&document()));
 }
 
 #[cfg(no_original)]
@@ -48,19 +52,33 @@ fn the_original_was_not_found() {
     differential::suite::say_original_not_found("differences");
 }
 
-/// Each line that is an answer, once changed, is reported.
-#[test]
-fn every_written_answer_counts() {
+/// Asserts that each line that is an answer, of the blocks that are the original's alone or of all others, is reported once
+/// it is changed.
+fn assert_each_answer_counts(of_the_original: bool, check: fn(&str) -> Result<usize, Fault>) {
     let document = document();
     let examples = examples(&document).unwrap_or_else(|fault| panic!("{fault}"));
-    let lines = examples.iter().flat_map(|example| &example.answers).flat_map(|written| &written.lines);
-    for line in lines.filter(|line| line.text.contains('=')) {
+    let blocks = examples.iter().flat_map(|example| &example.answers);
+    let blocks = blocks.filter(|written| written.is_of_the_original() == of_the_original);
+    let lines: Vec<_> = blocks.flat_map(|written| &written.lines).collect();
+    assert!(!lines.is_empty(), "{DOCUMENT} has no such answer");
+    for line in lines.into_iter().filter(|line| line.text.contains('=')) {
         let mut changed: Vec<_> = document.lines().collect();
         let text = format!("{}0", line.text);
         changed[line.number - 1] = &text;
-        let fault = check_proved(&changed.join("\n")).expect_err(&text);
+        let fault = check(&changed.join("\n")).expect_err(&text);
         assert_eq!(fault.line, line.number, "{fault}");
     }
+}
+
+#[test]
+fn every_written_answer_counts() {
+    assert_each_answer_counts(false, check_proved);
+}
+
+#[cfg(not(no_original))]
+#[test]
+fn every_written_answer_of_the_original_counts() {
+    assert_each_answer_counts(true, check_original);
 }
 
 /// By the bench profile each table with a profile of its own answers otherwise than is written.
@@ -134,6 +152,22 @@ const RUN: &str = "\
 switch 0,0,0 on
 tick 1
 row=0,0,0,15,0,0
+```
+";
+
+#[cfg(not(no_original))]
+const OVERDRIVEN: &str = "\
+```table
+0,0,0 Comparator level=200
+```
+```output
+refusal=10
+place=0
+```
+```original
+blocks=1
+rounds=1
+row=0,0,0,200,0,0
 ```
 ";
 
@@ -243,6 +277,16 @@ const FAULTS_IN_A_RUN: [Change; 12] = [
     ("row=0,0,0,15,0,0\n", ""),
 ];
 
+#[cfg(not(no_original))]
+const FAULTS_WHEN_OVERDRIVEN: [Change; 6] = [
+    ("level=200", "level=15"),
+    ("level=200", "level=201"),
+    ("refusal=10", "refusal=4"),
+    ("```original", "```originals"),
+    ("rounds=1", "rounds=2"),
+    ("row=0,0,0,200,0,0\n", ""),
+];
+
 const FAULTS_IN_ENTRIES: [Change; 6] = [
     ("### 1. One block", "### One block"),
     ("### 1. One block", "### One. One block"),
@@ -289,6 +333,8 @@ fn faults_are_reported() {
     assert_each_is_reported(PROFILED, &FAULTS_IN_A_PROFILE, check_proved);
     assert_each_is_reported(RUN, &FAULTS_IN_A_RUN, check_proved);
     assert_each_is_reported(ENTRIES, &FAULTS_IN_ENTRIES, check_proved);
+    #[cfg(not(no_original))]
+    assert_each_is_reported(OVERDRIVEN, &FAULTS_WHEN_OVERDRIVEN, check_original);
     assert_each_is_reported(RISKS, &FAULTS_IN_RISKS, check_risks);
     assert!(named_tests("| what | no test |").is_err());
 }

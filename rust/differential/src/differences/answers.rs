@@ -12,7 +12,8 @@ use crate::table::{self, Position};
 /// Puts a table through a bench, once for each block of answers, up to the first line that differs.
 pub fn check<B: Bench>(example: &Example, bench: impl Fn() -> B) -> Result<(), Fault> {
     let answers = |written| answers(written, &example.table.rows, bench());
-    example.answers.iter().try_for_each(|written| compare(written, &answers(written)))
+    let check = |written| answers(written).map_or(Ok(()), |answers| compare(written, &answers));
+    example.answers.iter().try_for_each(check)
 }
 
 fn compare(written: &Written, answers: &[String]) -> Result<(), Fault> {
@@ -25,18 +26,16 @@ fn compare(written: &Written, answers: &[String]) -> Result<(), Fault> {
     }
 }
 
-/// The lines that a block is to have.
-fn answers(written: &Written, rows: &[Row], mut bench: impl Bench) -> Vec<String> {
-    let fresh = match bench.fresh() {
-        Ok(fresh) => fresh,
-        Err(refusal) => return lines(&report::refused(refusal)),
-    };
-    match &written.sort {
-        Sort::Output => lines(&output(rows, &fresh)),
-        Sort::Run(turns) => run(turns, rows, fresh, bench),
-        Sort::Redrawn => redrawn(&bench.redrawn()),
-        Sort::Unsupported => unsupported(rows, &bench.unsupported()),
-    }
+/// The lines that a block is to have, if the bench can say.
+fn answers(written: &Written, rows: &[Row], mut bench: impl Bench) -> Option<Vec<String>> {
+    Some(match (&written.sort, bench.fresh()) {
+        (Sort::Original, _) => lines(&output(rows, &bench.unrefused()?)),
+        (_, Err(refusal)) => lines(&report::refused(refusal)),
+        (Sort::Output, Ok(fresh)) => lines(&output(rows, &fresh)),
+        (Sort::Run(turns), Ok(fresh)) => run(turns, rows, fresh, bench),
+        (Sort::Redrawn, Ok(_)) => redrawn(&bench.redrawn()),
+        (Sort::Unsupported, Ok(_)) => unsupported(rows, &bench.unsupported()),
+    })
 }
 
 fn lines(text: &str) -> Vec<String> {

@@ -13,6 +13,8 @@ pub trait Bench {
     fn redrawn(&self) -> Vec<u8>;
     /// The numbers of the rows that the support list names.
     fn unsupported(&self) -> Vec<usize>;
+    /// What the original settles the fresh devices to, be the table refused or not. The library cannot say.
+    fn unrefused(&self) -> Option<Settled>;
 }
 
 /// What a call leaves.

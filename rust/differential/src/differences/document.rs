@@ -28,6 +28,13 @@ pub struct Written<'a> {
     pub lines: Vec<Line<'a>>,
 }
 
+impl Written<'_> {
+    /// Whether the bench has no answer of this sort.
+    pub fn is_of_the_original(&self) -> bool {
+        matches!(self.sort, Sort::Original)
+    }
+}
+
 pub enum Sort {
     /// What the program `settle` writes.
     Output,
@@ -37,6 +44,8 @@ pub enum Sort {
     Redrawn,
     /// The rows of the support list.
     Unsupported,
+    /// What the original settles to, whatever the bench refuses.
+    Original,
 }
 
 /// A line of a run.
@@ -181,6 +190,7 @@ fn written<'a>(Block { word, lines }: Block<'a>, table: &Table) -> Result<Writte
         "run" => Sort::Run(run(word, &lines, table)?),
         "redrawn" => Sort::Redrawn,
         "unsupported" => Sort::Unsupported,
+        "original" => Sort::Original,
         other => return Err(Fault::at(word, format!("{other:?} is no word for a block"))),
     };
     Ok(Written { word, sort, lines })

@@ -1,7 +1,7 @@
 //! The original.
 
 use super::bench::{Bench, Settled};
-use crate::bulb::Reading;
+use crate::bulb::{READING, Reading};
 use crate::compare::Answers;
 use crate::oracle::Oracle;
 use crate::redstone::{OriginalRun, SIGNAL, STATE, STRONG, Step, WEAK};
@@ -49,5 +49,10 @@ impl Bench for Original<'_> {
         let answer = self.oracle.answer(&WorldQuery::SupportIssues { entries: self.oracle.rows.len() });
         let listed = &answer.buffers[0].entries[..answer.number as usize];
         listed.iter().map(|row| usize::from(*row)).collect()
+    }
+
+    fn unrefused(&self) -> Option<Settled> {
+        let oracle = Oracle::of_any_levels(self.oracle.case);
+        Some(Original::new(&oracle, READING).step(Step::Fresh))
     }
 }

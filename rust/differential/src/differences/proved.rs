@@ -64,4 +64,8 @@ impl Bench for Proved {
     fn unsupported(&self) -> Vec<usize> {
         self.circuit().unsupported().expect(NOT_REFUSED)
     }
+
+    fn unrefused(&self) -> Option<Settled> {
+        None
+    }
 }
