@@ -43,7 +43,7 @@ pub fn records(seed: u64, random: &mut Random) -> Vec<Record> {
     let [short_line, long_line] = [2, 15].map(|dust| Case::line("line", dust));
     let mut records = Vec::new();
     let [with_value, without_value] = [true, false].map(|charges| charged().with_torch_charging(charges));
-    for case in [&short_line, &long_line, &with_value, &without_value, &bulbs()] {
+    for case in [&short_line, &long_line, &comparator(), &with_value, &without_value, &bulbs()] {
         records.extend(settles(random, case, LIMITS.len() + 2));
     }
     for case in slow_cases(seed).take(SETTLED_TABLES).chain(charging_cases(seed).take(CHARGING_TABLES)) {
@@ -57,7 +57,12 @@ pub fn records(seed: u64, random: &mut Random) -> Vec<Record> {
     records.extend(switched_runs(seed, random).filter(lively).take(RUNS).flat_map(|run| run.records));
     let lighted = |run: &Run| run.lights >= LEAST_LIGHTS;
     records.extend(switched_runs(seed, random).filter(lighted).take(BULB_RUNS).flat_map(|run| run.records));
-    records.extend(run(&long_line, &[Step::Fresh, Step::Ticks(1)]).records);
+    for case in [long_line, comparator()] {
+        records.extend(run(&case, &[Step::Fresh, Step::Ticks(1)]).records);
+    }
+    let off = Step::Switch { at: PLATE, powered: false };
+    let steps = [Step::Fresh, Step::Ticks(1), Step::Ticks(1), off, Step::Ticks(2)];
+    records.extend(run(&subtracting(), &steps).records);
     for least_rows in SHORT_RUNS {
         let mut cases = small_cases(seed, MOST_ROWS).filter(|case| case.rows() >= least_rows);
         let case = cases.next().expect("there are tables of every size");
@@ -221,6 +226,28 @@ fn charging_cases(seed: u64) -> impl Iterator<Item = Case> {
 fn switched_runs(seed: u64, random: &mut Random) -> impl Iterator<Item = Run> {
     let switched = |case: &Case| table::rows(&case.table).iter().any(is_switch);
     small_cases(seed, MOST_RUN_ROWS).filter(switched).map(|case| run(&case, &steps(random, &case)))
+}
+
+/// Test 5: a comparator at 15, and dust before it.
+fn comparator() -> Case {
+    let comparator = Row::new(Kind::Comparator, [0, 1, 0]).with_facing(Facing::East).with_power_level(15);
+    Case::new("comparator", BENCH_PROFILE, [comparator, Row::new(Kind::RedstoneWire, [1, 1, 0])])
+}
+
+/// Where the plate of the next table stands.
+const PLATE: Position = [1, 0, 2];
+
+/// A comparator takes from a lever's level that of a plate, which another comparator leads to its side.
+fn subtracting() -> Case {
+    let comparator = |at, facing| Row::new(Kind::Comparator, at).with_facing(facing);
+    let rows = [
+        Row::new(Kind::Lever, [0, 0, 0]).with_powered(true).with_power_level(9),
+        comparator([1, 0, 0], Facing::East).with_subtract(true),
+        comparator([1, 0, 1], Facing::North),
+        Row::new(Kind::PressurePlate, PLATE).with_powered(true).with_power_level(4),
+        Row::new(Kind::RedstoneWire, [2, 0, 0]),
+    ];
+    Case::new("subtracting", BENCH_PROFILE, rows)
 }
 
 /// A lever puts out a torch, and so takes the charge from the block over it, which dust, a lamp, a repeater and another

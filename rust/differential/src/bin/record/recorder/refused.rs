@@ -1,7 +1,9 @@
-//! What document 02's Change 4 has refused: profiles, rows and states, by the second reading of the refusals.
+//! What document 02's Changes 4 and 5 have refused: profiles, rows, columns and states, by the second reading of the
+//! refusals.
 
+use differential::calls::{AnyCall, six_calls, six_calls_on};
 use differential::compare::Answers;
-use differential::generate::{BENCH_PROFILE_WITH_BULB, BULB, Case};
+use differential::generate::{BENCH_PROFILE, BENCH_PROFILE_WITH_BULB, BULB, Case};
 use differential::oracle::Oracle;
 use differential::redstone::{Call, Input};
 use redstone::{Kind, ROW_BYTES, Row, STATE_BYTES};
@@ -12,50 +14,50 @@ use super::{calls, inner, wire};
 /// The number of the bulb's row, and its place in the state.
 const BULB_ROW: usize = 1;
 
-/// Each bad case by every call, and each bad state by the two calls that read one.
+/// Each bad case by every call, each bad state by the two calls that read one, and each bad device byte by these and by
+/// settle.
 pub fn records() -> Vec<Record> {
-    let every_call = |case: Case| {
-        let inputs = inputs(&case, vec![0; STATE_BYTES * case.rows()]);
-        let records = inputs.iter().map(|input| call(&case, input)).collect::<Vec<_>>();
-        records.into_iter().chain([inner::support_issues(&case), wire::redraw(&case)])
-    };
-    let mut records: Vec<_> = bad_cases().into_iter().flat_map(every_call).collect();
-    let case = good_case();
+    let cases = bad_cases().into_iter().chain(overdriven_cases());
+    let every_call = |case: Case| six_calls_on(&case).map(|call| record(&case, &call));
+    let mut records: Vec<_> = cases.flat_map(every_call).collect();
+    let bulb = with_bulb();
     for state in bad_states() {
-        let with_state = |input: &&Input| matches!(input, Input::Tick { .. } | Input::Switch { .. });
-        records.extend(inputs(&case, state).iter().filter(with_state).map(|input| call(&case, input)));
+        let calls = six_calls(bulb.rows(), &[], &state).into_iter().filter(reads_state);
+        records.extend(calls.map(|call| record(&bulb, &call)));
+    }
+    for (case, devices) in overdriven_devices() {
+        let calls = six_calls_on(&case).into_iter().filter(AnyCall::reads_devices);
+        records.extend(calls.map(|call| record(&case, &with_devices(call, devices))));
     }
     records
 }
 
-fn inputs(case: &Case, state: Vec<u8>) -> [Input; 4] {
-    let rows = case.rows();
-    [
-        Input::Settle { devices: vec![0; rows], limit: 128 },
-        Input::Fresh { state_bytes: STATE_BYTES * rows },
-        Input::Tick { state: state.clone(), tick: 0, ticks: 1 },
-        Input::Switch { state, at: [0, 1, 0], powered: true },
-    ]
+fn reads_state(call: &AnyCall) -> bool {
+    matches!(call, AnyCall::Settling(Call { input: Input::Tick { .. } | Input::Switch { .. }, .. }))
 }
 
-fn call(case: &Case, input: &Input) -> Record {
-    let call = Call { input: input.clone(), columns: [case.rows(); 3] };
-    calls::record(case, input, &Oracle::new(case).answer(&call))
+fn with_devices(mut call: AnyCall, devices: [u8; 2]) -> AnyCall {
+    devices.into_iter().enumerate().for_each(|(row, device)| call.set_device(row, device));
+    call
+}
+
+fn record(case: &Case, call: &AnyCall) -> Record {
+    match call {
+        AnyCall::Settling(call) => calls::record(case, &call.input, &Oracle::new(case).answer(call)),
+        AnyCall::Supports { .. } => inner::support_issues(case),
+        AnyCall::Redraw => wire::redraw(case),
+    }
 }
 
 /// A lamp, and over it a bulb.
-fn good_case() -> Case {
+fn with_bulb() -> Case {
     let rows = [Row::new(Kind::RedstoneLamp, [0; 3]), Row::new(Kind::CopperBulb, [0, 1, 0])];
     Case::new("bulb", BENCH_PROFILE_WITH_BULB, rows)
 }
 
 /// A profile of 12 bytes, of 15, without a byte for the bulb and with one that is too large, and a kind past the bulb.
 fn bad_cases() -> [Case; 5] {
-    let changed = |change: fn(&mut Case)| {
-        let mut case = good_case();
-        change(&mut case);
-        case
-    };
+    let changed = |change: fn(&mut Case)| changed(with_bulb(), change);
     [
         changed(|case| case.profile.truncate(BULB - 1)),
         changed(|case| case.profile.push(0)),
@@ -63,6 +65,11 @@ fn bad_cases() -> [Case; 5] {
         changed(|case| case.profile[BULB] = 32),
         changed(|case| case.table[BULB_ROW * ROW_BYTES + 12] = 14),
     ]
+}
+
+fn changed(mut case: Case, change: fn(&mut Case)) -> Case {
+    change(&mut case);
+    case
 }
 
 /// A light of 2, ticks left, a byte 9 of 2 and a byte 10 that is not 0 on the bulb; a byte 9 on the lamp.
@@ -73,4 +80,34 @@ fn bad_states() -> [Vec<u8>; 5] {
         state[at] = byte;
         state
     })
+}
+
+/// A torch and a comparator of level 15, of which either may come first.
+fn with_comparator(kinds: [Kind; 2]) -> Case {
+    let row = |(y, kind)| {
+        let level = (kind == Kind::Comparator).then_some(15);
+        Row::new(kind, [0, y, 0]).with_power_level(level)
+    };
+    Case::new("comparator", BENCH_PROFILE, (0..).zip(kinds).map(row))
+}
+
+const COMPARATOR_FIRST: [Kind; 2] = [Kind::Comparator, Kind::RedstoneTorch];
+const COMPARATOR_LAST: [Kind; 2] = [Kind::RedstoneTorch, Kind::Comparator];
+
+/// Levels of 16 and 255, and one of 200 before a bad row and before a misplaced one.
+fn overdriven_cases() -> [Case; 4] {
+    let [first, last] = [COMPARATOR_FIRST, COMPARATOR_LAST].map(with_comparator);
+    let before = |change| changed(first.with_levels(|_| 200), change);
+    [
+        last.with_levels(|_| 16),
+        last.with_levels(|_| 255),
+        before(|case| case.table[ROW_BYTES + 31] = 1),
+        before(|case| case.table.copy_within(..12, ROW_BYTES)),
+    ]
+}
+
+/// The tables, each with the device bytes of its two rows: 16, 255, and 200 before a bad one.
+fn overdriven_devices() -> [(Case, [u8; 2]); 3] {
+    [(COMPARATOR_LAST, [1, 16]), (COMPARATOR_LAST, [0, 255]), (COMPARATOR_FIRST, [200, 2])]
+        .map(|(kinds, devices)| (with_comparator(kinds), devices))
 }
