@@ -35,10 +35,11 @@
  *     neither.
  *   - A lever, button or plate powers the block at its support offset, (0,-1,0) for the one below. Without an offset it
  *     powers no block, and still gives its level to dust beside it. It is on where powered is true, with its power
- *     level, at most 15, or 15 where none is given.
+ *     level, capped at 15, or 15 where none is given.
  *   - A torch goes out while the block at its support offset has power. It starts lit, unless powered is false.
  *   - A repeater starts off, unless powered is true. Its delay is in ticks: 1 where none is given or 0 is, 4 above 4.
- *   - A comparator starts with its power level, or where none is given with 15 if powered is true and else with 0.
+ *   - A comparator starts with its power level, which is not capped: above 15 it is refused, by 10. Where none is given
+ *     it starts with 15 if powered is true and else with 0.
  *   - A copper bulb starts dark, unless powered is true. Its light flips each time that power arrives: after a tick
  *     that leaves it with power, if it had none after the tick before. Power that it has when fresh has arrived.
  *   - Dust takes the arms that no entry is stored for from what stands around it.
@@ -49,7 +50,7 @@
  * receives strong power. The bench profile has it clear. With 13 bytes a row of kind 13 is bad; on a table without such
  * rows a fourteenth byte changes nothing.
  *
- * Devices. A byte a row: repeater powered or torch lit 0/1, comparator 0-255, other kinds 0.
+ * Devices. A byte a row: repeater powered or torch lit 0/1, comparator 0-15, other kinds 0.
  *
  * State. 16 bytes a row, of which the bytes of another kind's device are 0. Numbers have their low byte first.
  *
@@ -63,23 +64,27 @@
  *   9     whether a bulb had power after the last tick 0/1
  *   10-15 0
  *
- * Signal, weak, strong. A byte a row. The signal is the level that a source or device gives, and a dust's own. Strong
- * power is what levers, buttons, plates, repeaters, comparators, redstone blocks and, by the profile, torches give to a
- * block. Weak power is what dust, and strongly powered neighbours, give to a block. Lamps, bulbs, torches, repeaters
- * and comparators answer to both; strong power alone drives dust.
+ * Signal, weak, strong. A byte a row, at most 15 for every kind. The signal is the level that a source or device gives,
+ * and a dust's own. Strong power is what levers, buttons, plates, repeaters, comparators, redstone blocks and, by the
+ * profile, torches give to a block. Weak power is what dust, and strongly powered neighbours, give to a block. Lamps,
+ * bulbs, torches, repeaters and comparators answer to both; strong power alone drives dust.
  *
- * Refusals, tested in this order as far as the call has the input, 4 over all rows before 5, in 6 the length before a
- * value; the row is the first at fault for 4, 5 and a value in 6, and else 0.
+ * Refusals, tested in the order 1 to 5, 10 on the rows, 6, 10 on the device column or the state, 7, 8, 9, as far as the
+ * call has the input. Each is tested over all rows before the next, in 6 the length before a value. The row is the first
+ * at fault for 4, 5, 10 and a value in 6, and else 0. Every call gives 10 on the rows, settle on the device column, too,
+ * and tick and switch on the state.
  *
- *   1 profile     not 13 bytes nor 14, Air not 0, or a byte above 31, the torch's above 63
- *   2 ragged      table length not a multiple of 32
- *   3 crowded     more than 1024 rows
- *   4 bad row     a field outside the layout, or kind 13 with a profile of 13 bytes
- *   5 misplaced   a position not after the row before
- *   6 bad state   device column or state of wrong length or value
- *   7 column      an output column, or fresh's state, not one entry per row
- *   8 unsettled   limit below the rounds needed (settle alone; 17 is always enough)
- *   9 clock end   tick plus ticks above 4294967295
+ *   1  profile     not 13 bytes nor 14, Air not 0, or a byte above 31, the torch's above 63
+ *   2  ragged      table length not a multiple of 32
+ *   3  crowded     more than 1024 rows
+ *   4  bad row     a field outside the layout, or kind 13 with a profile of 13 bytes
+ *   5  misplaced   a position not after the row before
+ *   6  bad state   device column or state of wrong length or value, but for 10's
+ *   7  column      an output column, or fresh's state, not one entry per row
+ *   8  unsettled   limit below the rounds needed (settle alone; 17 is always enough)
+ *   9  clock end   tick plus ticks above 4294967295 (tick alone)
+ *   10 overdriven  a comparator with a power level above 15 given in its row, or with a device byte above 15 in the
+ *                  device column or the state
  */
 #ifndef REDSTONE_H
 #define REDSTONE_H
@@ -99,6 +104,7 @@
 #define REDSTONE_ROW_BYTES 32
 #define REDSTONE_STATE_BYTES 16
 #define REDSTONE_MOST_ROWS 1024
+#define REDSTONE_MOST_LEVEL 15
 #define REDSTONE_MOST_ROUNDS 17
 #define REDSTONE_FARTHEST 1000000
 

@@ -33,7 +33,7 @@ pub struct Refusal {
     pub fault: Fault,
 }
 
-/// The refusals, in the order in which a call tests for them.
+/// The refusals. A call tests for them in the order of their numbers, but for [`Overdriven`](Self::Overdriven).
 #[derive(Clone, Copy, Debug, Eq, Hash, PartialEq)]
 #[non_exhaustive]
 pub enum RefusalKind {
@@ -56,12 +56,15 @@ pub enum RefusalKind {
     Unsettled,
     /// 9: the tick and the ticks asked for add up to more than 4,294,967,295.
     ClockEnd,
+    /// 10: a comparator's level is above 15, be it the power level of its row, which is tested just after 5, or its byte of
+    /// the device column or the state, which is tested just after 6.
+    Overdriven,
     /// A number that this crate does not know.
     Unknown,
 }
 
 /// Each number, what it stands for, and its word.
-const REFUSALS: [(u32, RefusalKind, &str); 9] = [
+pub(crate) const REFUSALS: [(u32, RefusalKind, &str); 10] = [
     (1, RefusalKind::Profile, "profile"),
     (2, RefusalKind::Ragged, "ragged"),
     (3, RefusalKind::Crowded, "crowded"),
@@ -71,6 +74,7 @@ const REFUSALS: [(u32, RefusalKind, &str); 9] = [
     (7, RefusalKind::Column, "column"),
     (8, RefusalKind::Unsettled, "unsettled"),
     (9, RefusalKind::ClockEnd, "clock end"),
+    (10, RefusalKind::Overdriven, "overdriven"),
 ];
 
 impl RefusalKind {
@@ -79,7 +83,7 @@ impl RefusalKind {
         REFUSALS.iter().find(|(known, ..)| *known == number).map_or(Self::Unknown, |(_, kind, _)| *kind)
     }
 
-    /// The refusal's word, as document 01 has it.
+    /// The refusal's word, as documents 01 and 02 have it.
     fn word(self) -> &'static str {
         REFUSALS.iter().find(|(_, known, _)| *known == self).map_or("unknown", |(.., word)| word)
     }

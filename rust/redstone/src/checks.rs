@@ -1,7 +1,7 @@
-//! The tests of the refusal table, in its order, for the reason that a refusal gives. Whether a call is refused, and
+//! The tests of the refusal table, in their order, for the reason that a refusal gives. Whether a call is refused, and
 //! with which number, is the proved call's to say.
 
-use crate::device::{Device, read_device_byte};
+use crate::device::{Device, check_device_level, read_device_byte};
 use crate::table::rows_under;
 use crate::{
     BadField, Buffer, Fault, Kind, MOST_ROWS, PROFILE_BYTES, PROFILE_BYTES_WITH_BULB, ROW_BYTES, Row,
@@ -65,12 +65,13 @@ pub(crate) fn supports(profile: &[u8], table: &[u8], list: &[u16]) -> Result<(),
     check_lengths(&input(profile, table)?, &[(Buffer::Rows, list.len())])
 }
 
-/// 1 to 5. The rows are those of the accepted table.
+/// 1 to 5, and 10 on the rows. The rows are those of the accepted table.
 fn input(profile: &[u8], table: &[u8]) -> Result<Vec<Row>, Fault> {
     check_profile(profile)?;
     check_number(table)?;
     let rows = rows_under(profile.len(), table)?;
     check_order(&rows)?;
+    check_levels(&rows)?;
     Ok(rows)
 }
 
@@ -115,19 +116,28 @@ fn check_order(rows: &[Row]) -> Result<(), Fault> {
     Ok(())
 }
 
-/// 6, of a device column.
+/// 10, of the rows.
+fn check_levels(rows: &[Row]) -> Result<(), Fault> {
+    for (number, row) in rows.iter().enumerate() {
+        let position = row.position();
+        row.check_level().map_err(|field| Fault::OverdrivenRow { row: number, position, field })?;
+    }
+    Ok(())
+}
+
+/// 6 and 10, of a device column.
 fn check_devices(rows: &[Row], devices: &[u8]) -> Result<(), Fault> {
     check_values(Buffer::Devices, rows, devices, |row, &[byte]| read_device_byte(row.kind(), byte).map(drop))
 }
 
-/// 6, of a state.
+/// 6 and 10, of a state.
 fn check_state(rows: &[Row], state: &[u8]) -> Result<(), Fault> {
     check_values(Buffer::State, rows, state, |row, bytes: &[u8; STATE_BYTES]| {
-        Device::read(row, bytes).map(drop)
+        Device::read_at_any_level(row, bytes).map(drop)
     })
 }
 
-/// The length, then the bytes of each row.
+/// The length, then the bytes of each row, whose first is the device byte; then the levels.
 fn check_values<const WIDTH: usize>(
     buffer: Buffer,
     rows: &[Row],
@@ -138,9 +148,15 @@ fn check_values<const WIDTH: usize>(
     if length != expected {
         return Err(Fault::StateLength { buffer, length, expected });
     }
-    for (number, (row, bytes)) in rows.iter().zip(values.as_chunks().0).enumerate() {
+    let each_row = || rows.iter().zip(values.as_chunks().0).enumerate();
+    for (number, (row, bytes)) in each_row() {
         let (position, kind) = (row.position(), row.kind());
         check(row, bytes).map_err(|field| Fault::BadState { buffer, row: number, position, kind, field })?;
+    }
+    for (number, (row, bytes)) in each_row() {
+        let position = row.position();
+        let overdriven = |field| Fault::OverdrivenState { buffer, row: number, position, field };
+        check_device_level(bytes).map_err(overdriven)?;
     }
     Ok(())
 }

@@ -80,7 +80,7 @@ pub struct Block {
     pub device: Device,
 }
 
-/// What a row settled to.
+/// What a row settled to: three figures, each from 0 to [`MOST_LEVEL`](crate::MOST_LEVEL).
 #[derive(Clone, Copy, Debug, Eq, Hash, PartialEq)]
 #[non_exhaustive]
 pub struct Figures {
@@ -93,7 +93,7 @@ pub struct Figures {
     pub strong: u8,
 }
 
-/// What a table settled to: three columns of a byte for each row.
+/// What a table settled to: three columns of a byte for each row, from 0 to [`MOST_LEVEL`](crate::MOST_LEVEL).
 #[derive(Clone, Debug, Eq, PartialEq)]
 pub struct Settled {
     rounds: Rounds,
@@ -147,7 +147,7 @@ impl Circuit {
     ///
     /// # Errors
     ///
-    /// Refusals 1 and 3 to 5.
+    /// Refusals 1, 3 to 5, and 10.
     pub fn new(profile: &[u8], rows: impl IntoIterator<Item = Row>) -> Result<Self, Refusal> {
         Self::from_table(profile, table(rows))
     }
@@ -156,7 +156,7 @@ impl Circuit {
     ///
     /// # Errors
     ///
-    /// Refusals 1 to 5.
+    /// Refusals 1 to 5, and 10.
     pub fn from_table(profile: &[u8], table: impl Into<Vec<u8>>) -> Result<Self, Refusal> {
         let table = table.into();
         let rows = table.len() / ROW_BYTES;
@@ -169,7 +169,7 @@ impl Circuit {
     ///
     /// # Errors
     ///
-    /// Refusals 1 to 6.
+    /// Refusals 1 to 6, and 10.
     pub fn resume(
         profile: &[u8],
         table: impl Into<Vec<u8>>,
@@ -237,7 +237,7 @@ impl Circuit {
     ///
     /// # Errors
     ///
-    /// Refusal 6 on the device column, and 8 where the limit is too low, which one of [`Rounds::MOST`] never is.
+    /// Refusals 6 and 10 on the device column, and 8 where the limit is too low, which one of [`Rounds::MOST`] never is.
     pub fn settle(&self, devices: &[u8], limit: u32) -> Result<Settled, Refusal> {
         Settled::by(self.len(), |columns| settle(&self.profile, &self.table, devices, limit, columns))
     }

@@ -1,7 +1,7 @@
 //! What a state holds of a row, in fields and in bytes.
 
 use crate::field::{Allowed, BadField, Field};
-use crate::{Kind, Row, STATE_BYTES};
+use crate::{Kind, MOST_LEVEL, Row, STATE_BYTES};
 
 const DEVICE: Field = Field { name: "device", at: 0 };
 const QUEUE: Field = Field { name: "queue", at: 1 };
@@ -53,7 +53,7 @@ pub enum Device {
     },
     /// A comparator.
     Comparator {
-        /// The level that it gives.
+        /// The level that it gives. The calls refuse one above [`MOST_LEVEL`].
         level: u8,
     },
     /// A lamp.
@@ -77,8 +77,15 @@ impl Device {
     ///
     /// # Errors
     ///
-    /// The first field that the device of this row cannot have.
+    /// The first field that the device of this row cannot have, a comparator's level after all others.
     pub fn read(row: &Row, bytes: &[u8; STATE_BYTES]) -> Result<Self, BadField> {
+        let device = Self::read_at_any_level(row, bytes)?;
+        check_device_level(bytes)?;
+        Ok(device)
+    }
+
+    /// The same, but for a comparator's level, for which the calls have a refusal of its own.
+    pub(crate) fn read_at_any_level(row: &Row, bytes: &[u8; STATE_BYTES]) -> Result<Self, BadField> {
         let kind = row.kind();
         let device = read_device_byte(kind, DEVICE.byte(bytes))?;
         let queue = read_queue(row, bytes, device)?;
@@ -134,7 +141,7 @@ impl Device {
     }
 }
 
-/// Reads the byte that a device column has for a row, which is a state's first for it.
+/// Reads the byte that a device column has for a row, which is a state's first for it. A comparator's may be any.
 pub(crate) fn read_device_byte(kind: Kind, byte: u8) -> Result<u8, BadField> {
     match kind {
         Kind::Repeater | Kind::RedstoneTorch => DEVICE.within(byte, 0, 1),
@@ -145,6 +152,11 @@ pub(crate) fn read_device_byte(kind: Kind, byte: u8) -> Result<u8, BadField> {
             Err(DEVICE.bad(byte, Allowed::Rule(rule)))
         }
     }
+}
+
+/// The device byte as the level of a comparator. That of another kind is 0 or 1.
+pub(crate) fn check_device_level(bytes: &[u8]) -> Result<(), BadField> {
+    DEVICE.within(DEVICE.byte(bytes), 0, MOST_LEVEL.into()).map(drop)
 }
 
 fn read_queue(row: &Row, bytes: &[u8], device: u8) -> Result<u8, BadField> {

@@ -96,6 +96,26 @@ pub enum Fault {
         /// The ticks asked for.
         ticks: u32,
     },
+    /// 10: the row of a comparator has a power level above 15.
+    OverdrivenRow {
+        /// The row's number.
+        row: usize,
+        /// Its position.
+        position: [i32; 3],
+        /// The power level.
+        field: BadField,
+    },
+    /// 10: the device column or the state has a level above 15 for a comparator.
+    OverdrivenState {
+        /// Which of them.
+        buffer: Buffer,
+        /// The number of the comparator's row.
+        row: usize,
+        /// Its position.
+        position: [i32; 3],
+        /// The level.
+        field: BadField,
+    },
     /// The library refused what this crate finds no fault with.
     Unexplained {
         /// The number of the refusal.
@@ -137,6 +157,7 @@ impl Fault {
             Self::Column { .. } => 7,
             Self::Unsettled { .. } => 8,
             Self::ClockEnd { .. } => 9,
+            Self::OverdrivenRow { .. } | Self::OverdrivenState { .. } => 10,
             Self::Unexplained { number, .. } => number,
         }
     }
@@ -148,6 +169,8 @@ impl Fault {
             Self::BadRow { row, .. }
             | Self::Misplaced { row, .. }
             | Self::BadState { row, .. }
+            | Self::OverdrivenRow { row, .. }
+            | Self::OverdrivenState { row, .. }
             | Self::Unexplained { row, .. } => row,
             _ => 0,
         }
@@ -176,7 +199,7 @@ impl Display for Fault {
             Self::Crowded { rows } => {
                 write!(f, "the table has {rows} rows; it may have at most {MOST_ROWS}")
             }
-            Self::BadRow { row, position, field } => {
+            Self::BadRow { row, position, field } | Self::OverdrivenRow { row, position, field } => {
                 write!(f, "row {row} at {}: {field}", At(position))
             }
             Self::Misplaced { row, position, before } if position == before => {
@@ -193,6 +216,9 @@ impl Display for Fault {
             }
             Self::BadState { buffer, row, position, kind, field } => {
                 write!(f, "the {buffer}'s row {row}, of a {kind} at {}: {field}", At(position))
+            }
+            Self::OverdrivenState { buffer, row, position, field } => {
+                write!(f, "the {buffer}'s row {row}, of the comparator at {}: {field}", At(position))
             }
             Self::Unsettled { limit } => {
                 let most = Rounds::MOST;

@@ -43,9 +43,10 @@
 //!   lit torches to the one above, if the profile has [`TORCH_CHARGES_ABOVE`].
 //! - *Weak power* is what dust, and strongly powered neighbours, give to a block.
 //!
-//! Lamps, bulbs, torches, repeaters and comparators answer to both powers; strong power alone drives dust. What a table
-//! settles to is an instant: the devices stand as the state has them, and a tick, a tenth of a second, lets them answer.
-//! So a torch on a powered block is lit in the fresh state and out after one tick.
+//! Each is from 0 to 15, whatever the block. Lamps, bulbs, torches, repeaters and comparators answer to both powers;
+//! strong power alone drives dust. What a table settles to is an instant: the devices stand as the state has them, and a
+//! tick, a tenth of a second, lets them answer. So a torch on a powered block is lit in the fresh state and out after one
+//! tick.
 //!
 //! # Calls
 //!
@@ -59,7 +60,7 @@
 //! - The table has [`ROW_BYTES`] for each row, ordered by x, then y, then z, each position once. Rows are numbered in
 //!   that order, from 0.
 //! - A device column has a byte for each row: a repeater's or torch's is 1 where it is on, a comparator's is its
-//!   level, any other is 0.
+//!   level, from 0 to 15, any other is 0.
 //! - A state has [`STATE_BYTES`] for each row, which [`Device::read`] reads. [`fresh`] writes it, and [`tick`] moves it
 //!   on.
 //!
@@ -129,6 +130,9 @@ pub const STATE_BYTES: usize = 16;
 pub const PROFILE_BYTES: usize = 13;
 /// Bytes of a profile for tables that may have bulbs, whose byte is the last. It is good for any table.
 pub const PROFILE_BYTES_WITH_BULB: usize = 14;
+/// The largest level: every signal, every weak and every strong power that a call writes is from 0 to this, and so is a
+/// comparator's level.
+pub const MOST_LEVEL: u8 = 15;
 /// The most rows that a table may have.
 pub const MOST_ROWS: usize = 1024;
 /// The largest coordinate; its negative is the smallest.
@@ -171,7 +175,7 @@ pub const BENCH_PROFILE_WITH_BULB: [u8; PROFILE_BYTES_WITH_BULB] =
 /// ```
 pub const TORCH_CHARGES_ABOVE: u8 = 32;
 
-/// The columns that a call fills, each of one byte for each row.
+/// The columns that a call fills, each of one byte for each row, from 0 to [`MOST_LEVEL`].
 #[derive(Debug)]
 pub struct Columns<'a> {
     /// The level that a source or device gives, and a dust's own.
@@ -202,7 +206,7 @@ impl Columns<'_> {
 ///
 /// # Errors
 ///
-/// Refusals 1 to 5, and 7 on the state or a column.
+/// Refusals 1 to 5, 10 on a row, and 7 on the state or a column.
 pub fn fresh(
     profile: &[u8],
     table: &[u8],
@@ -219,8 +223,8 @@ pub fn fresh(
 ///
 /// # Errors
 ///
-/// Refusals 1 to 5, 6 on the device column, 7 on a column, and 8 where the limit is too low, which one of
-/// [`Rounds::MOST`] never is.
+/// Refusals 1 to 5, 10 on a row, 6 and 10 on the device column, 7 on a column, and 8 where the limit is too low, which
+/// one of [`Rounds::MOST`] never is.
 pub fn settle(
     profile: &[u8],
     table: &[u8],
@@ -241,7 +245,7 @@ pub fn settle(
 ///
 /// # Errors
 ///
-/// Refusals 1 to 5, 6 on the state, 7 on a column, and 9 where the tick's number would pass the last.
+/// Refusals 1 to 5, 10 on a row, 6 and 10 on the state, 7 on a column, and 9 where the tick's number would pass the last.
 pub fn tick(
     profile: &[u8],
     table: &[u8],
@@ -261,7 +265,7 @@ pub fn tick(
 ///
 /// # Errors
 ///
-/// Refusals 1 to 5, 6 on the state, and 7 on a column.
+/// Refusals 1 to 5, 10 on a row, 6 and 10 on the state, and 7 on a column.
 pub fn switch(
     profile: &[u8],
     table: &mut [u8],
@@ -282,7 +286,7 @@ pub fn switch(
 ///
 /// # Errors
 ///
-/// Refusals 1 to 5.
+/// Refusals 1 to 5, and 10 on a row.
 pub fn redraw(profile: &[u8], table: &mut [u8]) -> Result<(), Refusal> {
     let answer = c::redstone_redraw(profile, table);
     answered(answer, || checks::redraw(profile, table)).map(drop)
@@ -305,7 +309,7 @@ pub fn redraw(profile: &[u8], table: &mut [u8]) -> Result<(), Refusal> {
 ///
 /// # Errors
 ///
-/// Refusals 1 to 5, and 7 on `rows`.
+/// Refusals 1 to 5, 10 on a row, and 7 on `rows`.
 pub fn supports(profile: &[u8], table: &[u8], rows: &mut [u16]) -> Result<usize, Refusal> {
     let answer = c::redstone_supports(profile, table, rows);
     answered(answer, || checks::supports(profile, table, rows)).map(|count| count as usize)

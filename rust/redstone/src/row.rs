@@ -4,7 +4,7 @@ use std::error::Error;
 use std::fmt::{self, Display, Formatter};
 
 use crate::field::{Allowed, BadField, Field};
-use crate::{Arm, FARTHEST, Facing, Kind, PROFILE_BYTES_WITH_BULB, ROW_BYTES, Shape};
+use crate::{Arm, FARTHEST, Facing, Kind, MOST_LEVEL, PROFILE_BYTES_WITH_BULB, ROW_BYTES, Shape};
 
 const fn field(name: &'static str, at: usize) -> Field {
     Field { name, at }
@@ -43,7 +43,8 @@ const UNUSED: [Field; 2] = [field("unused", 30), field("unused", 31)];
 /// # Ok::<(), redstone::BadField>(())
 /// ```
 ///
-/// A coordinate or a support offset out of range can be set, and no call accepts it; it is not read back.
+/// A coordinate or a support offset out of range can be set, and no call accepts it; it is not read back. A comparator's
+/// [power level](Self::power_level) above 15 can be set, too, and no call accepts it; it is read back.
 #[derive(Clone, Copy, Debug, Eq, Hash, PartialEq)]
 pub struct Row {
     position: [i32; 3],
@@ -126,8 +127,9 @@ impl Row {
         Self { powered: powered.into(), ..self }
     }
 
-    /// The level that a lever, button or plate gives while it is on: at most 15, and 15 where it is missing. A
-    /// comparator starts with it, even above 15; where it is missing, with 15 or 0 as [`powered`](Self::powered) says.
+    /// The level that a lever, button or plate gives while it is on: above 15 it counts as 15, and missing it is 15. A
+    /// comparator starts with it, and no call accepts a comparator with one above 15: that is refusal 10. Where it is
+    /// missing, a comparator starts with 15 or 0 as [`powered`](Self::powered) says.
     #[must_use]
     pub fn power_level(&self) -> Option<u8> {
         self.power_level
@@ -258,6 +260,16 @@ impl Row {
         };
         UNUSED.iter().try_for_each(|field| field.zero(bytes, Allowed::Rule("it must be 0")))?;
         Ok(row)
+    }
+
+    /// That a comparator's power level is not too large.
+    pub(crate) fn check_level(&self) -> Result<(), BadField> {
+        match self.power_level {
+            Some(level) if self.kind == Kind::Comparator && level > MOST_LEVEL => {
+                Err(LEVEL.bad(level, Allowed::Rule("a comparator's may be at most 15")))
+            }
+            _ => Ok(()),
+        }
     }
 }
 

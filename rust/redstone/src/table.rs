@@ -15,8 +15,8 @@ pub fn table(rows: impl IntoIterator<Item = Row>) -> Vec<u8> {
 
 /// Reads the rows of a packed table, as they stand in it.
 ///
-/// Their number and their order are for the calls to judge, and so is whether their profile has a byte for bulbs: what
-/// this reads and [`table()`] packs again has the table's order.
+/// Their number, their order and the levels of comparators are for the calls to judge, and so is whether their profile
+/// has a byte for bulbs: what this reads and [`table()`] packs again has the table's order.
 ///
 /// ```
 /// use redstone::{Kind, Row, find, rows, table};

@@ -16,6 +16,7 @@ use crate::Columns;
 const UNTOUCHED: u8 = 0xc3;
 
 /// Columns to lend.
+#[derive(Clone, PartialEq)]
 struct Lent {
     signal: Vec<u8>,
     weak: Vec<u8>,

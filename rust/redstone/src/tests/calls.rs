@@ -2,12 +2,14 @@
 
 use super::{Lent, UNTOUCHED};
 use crate::{
-    Arm, BENCH_PROFILE, BENCH_PROFILE_WITH_BULB, Device, Kind, MOST_ROWS, ROW_BYTES, Refusal, Rounds, Row,
-    STATE_BYTES, fresh, redraw, rows, settle, supports, switch, table, tick,
+    Arm, BENCH_PROFILE, BENCH_PROFILE_WITH_BULB, Device, Facing, Kind, MOST_ROWS, ROW_BYTES, Refusal, Rounds,
+    Row, STATE_BYTES, fresh, redraw, rows, settle, supports, switch, table, tick,
 };
 
 /// The number and the row of a refusal.
-fn refused<T>(answer: Result<T, Refusal>) -> Option<(u32, usize)> {
+type Refused = Option<(u32, usize)>;
+
+fn refused<T>(answer: Result<T, Refusal>) -> Refused {
     answer.err().map(|refusal| (refusal.number, refusal.row))
 }
 
@@ -21,19 +23,22 @@ fn lamp(powered: bool) -> Vec<u8> {
     table([lever, Row::new(Kind::RedstoneLamp, [0, 0, 0])])
 }
 
-/// Tests 1 and 2 of the book.
+/// Tests 1, 2 and 5 of the book.
 #[test]
 fn the_smallest_tables_settle() {
-    let settled = |table: &[u8], limit| {
+    let settled = |table: &[u8], devices: &[u8], limit| {
         let mut lent = Lent::new(table.len() / ROW_BYTES);
-        let devices = vec![0; table.len() / ROW_BYTES];
-        (settle(&BENCH_PROFILE, table, &devices, limit, lent.columns()), lent.signal)
+        (settle(&BENCH_PROFILE, table, devices, limit, lent.columns()), lent.signal)
     };
-    assert_eq!(rounds(settled(&[], 128).0), 1);
-    assert_eq!(refused(settled(&[], 0).0), Some((8, 0)));
-    assert_eq!(rounds(settled(&table([Row::new(Kind::Solid, [0; 3])]), 128).0), 2);
-    let (answer, signal) = settled(&table([Row::new(Kind::RedstoneBlock, [0; 3])]), 128);
+    assert_eq!(rounds(settled(&[], &[], 128).0), 1);
+    assert_eq!(refused(settled(&[], &[], 0).0), Some((8, 0)));
+    assert_eq!(rounds(settled(&table([Row::new(Kind::Solid, [0; 3])]), &[0], 128).0), 2);
+    let (answer, signal) = settled(&table([Row::new(Kind::RedstoneBlock, [0; 3])]), &[0], 128);
     assert_eq!((rounds(answer), signal), (1, vec![15]));
+    let comparator = Row::new(Kind::Comparator, [0, 1, 0]).with_facing(Facing::East).with_power_level(15);
+    let table = table([comparator, Row::new(Kind::RedstoneWire, [1, 1, 0])]);
+    let (answer, signal) = settled(&table, &[15, 0], 128);
+    assert_eq!((rounds(answer), signal), (2, vec![15, 15]));
 }
 
 #[test]
@@ -60,6 +65,8 @@ fn each_refusal_has_its_word_and_writes_nothing() {
     let bad_row = [&good[..ROW_BYTES], &[0; ROW_BYTES]].concat();
     let misplaced = [&good[..ROW_BYTES], &good[..ROW_BYTES]].concat();
     let crowded = vec![0; (MOST_ROWS + 1) * ROW_BYTES];
+    let comparator = Row::new(Kind::Comparator, [1, 0, 0]).with_power_level(16);
+    let overdriven = [&good[..], &comparator.bytes()].concat();
     let settled = |profile: &[u8], table: &[u8], devices: &[u8], limit, rows| {
         let mut lent = Lent::new(rows);
         let answer = settle(profile, table, devices, limit, lent.columns());
@@ -83,6 +90,7 @@ fn each_refusal_has_its_word_and_writes_nothing() {
         (settled(bench, &good, &[0; 2], 17, 3), 7, 0, "column"),
         (settled(bench, &good, &[0; 2], 1, 2), 8, 0, "unsettled"),
         (ticked(vec![0; 2 * STATE_BYTES], u32::MAX, 1), 9, 0, "clock end"),
+        (settled(bench, &overdriven, &[0; 3], 17, 3), 10, 2, "overdriven"),
         (ticked(vec![0; STATE_BYTES], 0, 1), 6, 0, "bad state"),
     ];
     for (answer, number, row, word) in answers {
@@ -93,50 +101,79 @@ fn each_refusal_has_its_word_and_writes_nothing() {
     }
 }
 
-/// All that a call may write of a lamp with a lever on it, about to go out, and dust that nothing holds up.
+/// All that the calls are lent.
+#[derive(Clone, PartialEq)]
 struct Buffers {
     table: Vec<u8>,
+    devices: Vec<u8>,
     state: Vec<u8>,
     lent: Lent,
-    list: [u16; 3],
+    list: Vec<u16>,
 }
+
+/// The row of the comparator.
+const COMPARATOR: usize = 3;
 
 impl Buffers {
+    /// A lamp with a lever on it, about to go out, dust that nothing holds up, and a comparator. Each call writes some of it.
     fn new() -> Self {
         let dust = Row::new(Kind::RedstoneWire, [1, 0, 0]);
-        let state = [Device::Lamp { lit: true, ticks_left: 2 }, Device::None, Device::None];
+        let comparator = Row::new(Kind::Comparator, [2, 0, 0]).with_power_level(0);
+        let table = [&lamp(true)[..], &dust.bytes(), &comparator.bytes()].concat();
+        let devices = [
+            Device::Lamp { lit: true, ticks_left: 2 },
+            Device::None,
+            Device::None,
+            Device::Comparator { level: 0 },
+        ];
         Self {
-            table: [&lamp(true)[..], &dust.bytes()].concat(),
-            state: state.map(|device| device.bytes()).concat(),
-            lent: Lent::new(3),
-            list: [u16::MAX; 3],
+            table,
+            devices: devices.map(|device| device.byte()).to_vec(),
+            state: devices.map(|device| device.bytes()).concat(),
+            lent: Lent::new(devices.len()),
+            list: vec![u16::MAX; devices.len()],
         }
-    }
-
-    fn untouched(&self) -> bool {
-        let new = Self::new();
-        (&self.table, &self.state, self.list) == (&new.table, &new.state, new.list) && self.lent.untouched()
     }
 }
 
-/// A call under a profile, and what it is refused with. One that is not refused writes.
-type Call = fn(&[u8], &mut Buffers) -> Option<(u32, usize)>;
+/// A call under a profile. One that is not refused writes.
+type Call = fn(&[u8], &mut Buffers) -> Refused;
 
+/// Fresh, settle, tick, switch, redraw and supports.
 const CALLS: [Call; 6] = [
     |profile, of| refused(fresh(profile, &of.table, &mut of.state, of.lent.columns())),
-    |profile, of| refused(settle(profile, &of.table, &[0; 3], 17, of.lent.columns())),
+    |profile, of| refused(settle(profile, &of.table, &of.devices, 17, of.lent.columns())),
     |profile, of| refused(tick(profile, &of.table, &mut of.state, 0, 1, of.lent.columns())),
     |profile, of| refused(switch(profile, &mut of.table, &of.state, [0, 1, 0], false, of.lent.columns())),
     |profile, of| refused(redraw(profile, &mut of.table)),
     |profile, of| refused(supports(profile, &of.table, &mut of.list)),
 ];
 
-/// That every call answers so under a profile, and writes exactly where it is not refused.
-fn assert_each(profile: &[u8], refused: Option<(u32, usize)>) {
-    for call in CALLS {
+/// That each call answers so, and writes exactly where it is not refused.
+fn assert_each(profile: &[u8], buffers: &Buffers, refused: [Refused; 6]) {
+    for (call, refused) in CALLS.into_iter().zip(refused) {
+        let mut lent = buffers.clone();
+        assert_eq!(call(profile, &mut lent), refused, "{profile:?}");
+        assert_eq!(refused.is_some(), lent == *buffers, "{profile:?}");
+    }
+}
+
+/// In a row by every call, in the device column by settle, in the state by tick and switch.
+#[test]
+fn a_comparators_level_is_refused_exactly_above_15() {
+    for level in 0..=u8::MAX {
+        let overdriven = (level > 15).then_some((10, COMPARATOR));
         let mut buffers = Buffers::new();
-        assert_eq!(call(profile, &mut buffers), refused, "{profile:?}");
-        assert_eq!(refused.is_some(), buffers.untouched(), "{profile:?}");
+        buffers.table[COMPARATOR * ROW_BYTES + 16] = level;
+        assert_each(&BENCH_PROFILE, &buffers, [overdriven; 6]);
+
+        let mut buffers = Buffers::new();
+        buffers.devices[COMPARATOR] = level;
+        assert_each(&BENCH_PROFILE, &buffers, [None, overdriven, None, None, None, None]);
+
+        let mut buffers = Buffers::new();
+        buffers.state[COMPARATOR * STATE_BYTES] = level;
+        assert_each(&BENCH_PROFILE, &buffers, [None, None, overdriven, overdriven, None, None]);
     }
 }
 
@@ -149,7 +186,7 @@ fn a_profile_byte_is_refused_exactly_above_its_limit() {
             for value in 0..=u8::MAX {
                 let mut profile = bench.to_vec();
                 profile[kind] = value;
-                assert_each(&profile, (value > most).then_some((1, 0)));
+                assert_each(&profile, &Buffers::new(), [(value > most).then_some((1, 0)); 6]);
             }
         }
     }
@@ -159,7 +196,7 @@ fn a_profile_byte_is_refused_exactly_above_its_limit() {
 fn a_profile_has_13_or_14_bytes() {
     for length in 0..=64 {
         let is_good = length == 13 || length == 14;
-        assert_each(&vec![0; length], (!is_good).then_some((1, 0)));
+        assert_each(&vec![0; length], &Buffers::new(), [(!is_good).then_some((1, 0)); 6]);
     }
 }
 

@@ -209,7 +209,7 @@ fn a_circuit_is_made_of_accepted_tables_alone() {
     assert_eq!(Circuit::from_table(&PROFILE, [0; 31]).expect_err("ragged").number, 2);
 }
 
-/// A state's row is read into what packs to its bytes again.
+/// A state's row is read exactly where a call accepts it, and into what packs to its bytes again.
 #[test]
 fn devices_go_both_ways() {
     let kinds = Kind::ALL.iter().map(|&kind| Row::new(kind, [0; 3]));
@@ -219,7 +219,7 @@ fn devices_go_both_ways() {
         &[][..],
         &[(0, 1), (1, 1)],
         &[(0, 1), (4, 1), (8, 1)],
-        &[(0, 200)],
+        &[(0, 15)],
         &[(2, 1), (3, 2)],
         &[(2, 1), (9, 1)],
     ];
@@ -230,7 +230,10 @@ fn devices_go_both_ways() {
                 let mut bytes = [0; STATE_BYTES];
                 given.iter().for_each(|&(at, value)| bytes[at] = value);
                 bytes[at] = value;
-                if let Ok(device) = Device::read(&row, &bytes) {
+                let device = Device::read(&row, &bytes);
+                let resumed = Circuit::resume(&PROFILE, row.bytes(), bytes, 0);
+                assert_eq!(device.is_ok(), resumed.is_ok(), "{row:?}, {bytes:?}");
+                if let Ok(device) = device {
                     assert_eq!(device.bytes(), bytes);
                     assert_eq!(device.byte(), bytes[0]);
                     read += 1;
@@ -239,4 +242,18 @@ fn devices_go_both_ways() {
         }
     }
     assert!(read > 1000, "{read}");
+}
+
+/// After all other fields, as the calls have it.
+#[test]
+fn a_comparators_level_is_read_up_to_15() {
+    let row = Row::new(Kind::Comparator, [0; 3]);
+    let mut bytes = [0; STATE_BYTES];
+    bytes[0] = 15;
+    assert_eq!(Device::read(&row, &bytes), Ok(Device::Comparator { level: 15 }));
+    bytes[0] = 16;
+    let message = |bytes: &_| Device::read(&row, bytes).expect_err("a level above 15").to_string();
+    assert_eq!(message(&bytes), "device (byte 0) is 16; it may be from 0 to 15");
+    bytes[9] = 1;
+    assert_eq!(message(&bytes), "had power (byte 9) is 1; it must be 0, as the row is no bulb");
 }

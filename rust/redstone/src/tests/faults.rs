@@ -51,7 +51,7 @@ impl Input {
             repeater(1, 9),
             torch(0),
             torch(1),
-            Row::new(Kind::Comparator, [-3, 0, 0]).with_power_level(200).with_subtract(true),
+            Row::new(Kind::Comparator, [-3, 0, 0]).with_power_level(12).with_subtract(true),
             Row::new(Kind::RedstoneLamp, [-4, 0, 0]),
             Row::new(Kind::RedstoneWire, [-5, 0, 0]).with_arms([None; 4]),
             Row::new(Kind::CopperBulb, [0, 0, 0]),
@@ -127,6 +127,9 @@ impl Input {
     }
 }
 
+/// Makes something wrong.
+type Change = fn(&mut Input);
+
 /// Every byte of a buffer set to every value. Both accepted and refused inputs are met.
 fn every_byte(input: &Input, of: impl Fn(&mut Input) -> &mut [u8]) {
     let mut tried = input.clone();
@@ -198,7 +201,7 @@ fn reasons_agree_with_the_answers_on_every_length() {
 /// Two things wrong at once: the first of the table of refusals is given.
 #[test]
 fn reasons_agree_with_the_answers_on_two_faults() {
-    let changes: [fn(&mut Input); 16] = [
+    let changes: [Change; 19] = [
         |input| input.profile[0] = 1,
         |input| input.profile.resize(20, 0),
         |input| input.profile.truncate(PROFILE_BYTES),
@@ -206,10 +209,13 @@ fn reasons_agree_with_the_answers_on_two_faults() {
         |input| input.table.resize(ROW_BYTES * (MOST_ROWS + 1), 0),
         |input| input.table[ROW_BYTES + 13] = 7,
         |input| input.table[2 * ROW_BYTES] = 0,
+        |input| input.table[2 * ROW_BYTES + 16] = 16,
         |input| input.devices.push(0),
         |input| input.devices[6] = 255,
+        |input| input.devices[2] = 16,
         |input| input.state.push(0),
         |input| input.state[9] = 1,
+        |input| input.state[2 * STATE_BYTES] = 255,
         |input| input.state[10] = 1,
         |input| input.fresh += 1,
         |input| input.columns[2] += 1,
@@ -373,11 +379,109 @@ fn the_reason_says_what_a_bulb_may_have() {
     );
 }
 
+/// Two comparators, and a repeater.
+fn comparators() -> Input {
+    let comparator = |x| Row::new(Kind::Comparator, [x, 0, 0]).with_power_level(15);
+    let rows = [comparator(0), comparator(1), Row::new(Kind::Repeater, [2, 0, 0])];
+    Input::new(&BENCH_PROFILE, rows)
+}
+
+#[test]
+fn the_reason_says_how_large_a_comparators_level_may_be() {
+    assert_eq!(
+        message_of(comparators(), |input| input.table[ROW_BYTES + 16] = 200),
+        "row 1 at 1,0,0: power level (byte 16) is 200; a comparator's may be at most 15"
+    );
+    assert_eq!(
+        message_of(comparators(), |input| input.devices[0] = 16),
+        "the device column's row 0, of the comparator at 0,0,0: device (byte 0) is 16; it may be from 0 to 15"
+    );
+    assert_eq!(
+        message_of(comparators(), |input| input.state[STATE_BYTES] = 255),
+        "the state's row 1, of the comparator at 1,0,0: device (byte 0) is 255; it may be from 0 to 15"
+    );
+}
+
+/// The number and the row that fresh, settle, tick, switch, redraw and supports are refused with.
+fn refused(changes: &[Change]) -> [Option<(u32, usize)>; 6] {
+    let mut input = comparators();
+    changes.iter().for_each(|change| change(&mut input));
+    input.refusals().map(|refusal| refusal.map(|refusal| (refusal.number, refusal.row)))
+}
+
+/// A level of a row is tested after 5 and before 6, over all rows.
+#[test]
+fn a_rows_level_is_tested_after_5_and_before_6() {
+    let [first, second]: [Change; 2] =
+        [|input| input.table[16] = 16, |input| input.table[ROW_BYTES + 16] = 255];
+    assert_eq!(refused(&[first]), [Some((10, 0)); 6]);
+    assert_eq!(refused(&[second]), [Some((10, 1)); 6]);
+    assert_eq!(refused(&[second, first]), [Some((10, 0)); 6]);
+    let before: [(Change, _); 5] = [
+        (|input| input.profile[0] = 1, (1, 0)),
+        (|input| input.table.push(0), (2, 0)),
+        (|input| input.table.resize(ROW_BYTES * (MOST_ROWS + 1), 0), (3, 0)),
+        (|input| input.table[2 * ROW_BYTES + 13] = 7, (4, 2)),
+        (|input| input.table[2 * ROW_BYTES] = 1, (5, 2)),
+    ];
+    for (other, answer) in before {
+        assert_eq!(refused(&[first, other]), [Some(answer); 6]);
+    }
+    let after: [Change; 9] = [
+        |input| input.devices.push(0),
+        |input| input.devices[0] = 16,
+        |input| input.state.push(0),
+        |input| input.state[15] = 1,
+        |input| input.fresh += 1,
+        |input| input.columns[0] += 1,
+        |input| input.list += 1,
+        |input| input.limit = 0,
+        |input| input.tick = u32::MAX,
+    ];
+    for other in after {
+        assert_eq!(refused(&[second, other]), [Some((10, 1)); 6]);
+    }
+}
+
+/// A level of the device column is tested after 6, over all rows, and before 7.
+#[test]
+fn a_device_columns_level_is_tested_after_6_and_before_7() {
+    let settle_alone = |answer| [None, Some(answer), None, None, None, None];
+    let [first, second]: [Change; 2] = [|input| input.devices[0] = 16, |input| input.devices[1] = 255];
+    assert_eq!(refused(&[first]), settle_alone((10, 0)));
+    assert_eq!(refused(&[second]), settle_alone((10, 1)));
+    assert_eq!(refused(&[second, first]), settle_alone((10, 0)));
+    assert_eq!(refused(&[first, |input| input.devices.push(0)]), settle_alone((6, 0)));
+    assert_eq!(refused(&[first, |input| input.devices[2] = 2]), settle_alone((6, 2)));
+    assert_eq!(refused(&[first, |input| input.devices[2] = 255]), settle_alone((6, 2)));
+    assert_eq!(refused(&[second, |input| input.limit = 0]), settle_alone((10, 1)));
+    let column = Some((7, 0));
+    let answers = [column, Some((10, 1)), column, column, None, None];
+    assert_eq!(refused(&[second, |input| input.columns[2] += 1]), answers);
+}
+
+/// A level of the state is tested after 6, over all rows and bytes, and before 7.
+#[test]
+fn a_states_level_is_tested_after_6_and_before_7() {
+    let tick_and_switch = |answer| [None, None, Some(answer), Some(answer), None, None];
+    let [first, second]: [Change; 2] = [|input| input.state[0] = 16, |input| input.state[STATE_BYTES] = 255];
+    assert_eq!(refused(&[first]), tick_and_switch((10, 0)));
+    assert_eq!(refused(&[second]), tick_and_switch((10, 1)));
+    assert_eq!(refused(&[second, first]), tick_and_switch((10, 0)));
+    assert_eq!(refused(&[first, |input| input.state.push(0)]), tick_and_switch((6, 0)));
+    assert_eq!(refused(&[second, |input| input.state[STATE_BYTES + 9] = 1]), tick_and_switch((6, 1)));
+    assert_eq!(refused(&[first, |input| input.state[2 * STATE_BYTES] = 255]), tick_and_switch((6, 2)));
+    assert_eq!(refused(&[second, |input| input.tick = u32::MAX]), tick_and_switch((10, 1)));
+    let column = Some((7, 0));
+    let answers = [column, column, Some((10, 1)), Some((10, 1)), None, None];
+    assert_eq!(refused(&[second, |input| input.columns[0] += 1]), answers);
+}
+
 /// Without the bulb's byte a bulb is as any field outside the layout: the first such row counts, and in it the first
 /// such field.
 #[test]
 fn a_bulb_without_its_byte_is_a_fault_among_others() {
-    let place = |change: fn(&mut Input)| {
+    let place = |change: Change| {
         let mut input = bulb();
         input.profile.truncate(PROFILE_BYTES);
         change(&mut input);

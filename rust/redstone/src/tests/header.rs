@@ -2,13 +2,15 @@
 
 use std::fmt::Display;
 
+use crate::answer::REFUSALS;
 use crate::c::{DECLARED, Parameter};
 use crate::{
-    Arm, BENCH_PROFILE, BENCH_PROFILE_WITH_BULB, FARTHEST, Facing, Kind, MOST_ROWS, PROFILE_BYTES,
-    PROFILE_BYTES_WITH_BULB, ROW_BYTES, Rounds, STATE_BYTES, Shape, TORCH_CHARGES_ABOVE,
+    Arm, BENCH_PROFILE, BENCH_PROFILE_WITH_BULB, FARTHEST, Facing, Kind, MOST_LEVEL, MOST_ROWS,
+    PROFILE_BYTES, PROFILE_BYTES_WITH_BULB, ROW_BYTES, Rounds, STATE_BYTES, Shape, TORCH_CHARGES_ABOVE,
 };
 
 const HEADER: &str = include_str!("../../include/redstone.h");
+const README: &str = include_str!("../../../../README.md");
 
 #[test]
 fn the_header_declares_the_calls() {
@@ -102,6 +104,7 @@ fn the_header_has_the_constants() {
         ("ROW_BYTES", ROW_BYTES),
         ("STATE_BYTES", STATE_BYTES),
         ("MOST_ROWS", MOST_ROWS),
+        ("MOST_LEVEL", MOST_LEVEL.into()),
         ("MOST_ROUNDS", Rounds::MOST as usize),
         ("FARTHEST", FARTHEST as usize),
     ];
@@ -125,6 +128,18 @@ fn the_header_has_the_constants() {
         .chain(profiles);
     let defined = defined().into_iter().map(|(name, value)| (name.to_owned(), value.to_owned()));
     assert_eq!(defined.collect::<Vec<_>>(), constants.collect::<Vec<_>>());
+}
+
+#[test]
+fn the_header_and_the_readme_list_the_refusals() {
+    for (number, _, word) in REFUSALS {
+        for (text, line) in [
+            (HEADER, format!("\n *   {number:<2} {word:<10}  ")),
+            (README, format!("\n| {number} | {word} | ")),
+        ] {
+            assert_eq!(text.matches(&line).count(), 1, "{line:?}");
+        }
+    }
 }
 
 /// A constant for each value, named as its name is in capitals.

@@ -13,8 +13,8 @@ fn full() -> Row {
     Row::new(Kind::Comparator, [1, -2, FARTHEST])
         .with_facing(Facing::West)
         .with_powered(true)
-        .with_power_level(200)
-        .with_delay(3)
+        .with_power_level(12)
+        .with_delay(200)
         .with_support([1, 0, -1])
         .with_arms([Some(Arm::None), Some(Arm::Side), Some(Arm::Up), None])
         .with_shape(Shape::Glass)
@@ -31,7 +31,7 @@ fn a_row_packs_each_field() {
     let bytes = [
         [1, 0, 0, 0, 0xfe, 0xff, 0xff, 0xff],
         [0x40, 0x42, 0x0f, 0, 6, 4, 2, 1],
-        [200, 1, 3, 1, 1, 0, 255, 1],
+        [12, 1, 200, 1, 1, 0, 255, 1],
         [1, 2, 3, 0, 6, 1, 0, 0],
     ];
     assert_eq!(full().bytes(), bytes.as_flattened());
@@ -46,7 +46,7 @@ fn a_row_has_each_field_and_can_lose_it() {
     let row = full();
     assert_eq!((row.kind(), row.position()), (Kind::Comparator, [1, -2, FARTHEST]));
     assert_eq!((row.facing(), row.powered()), (Some(Facing::West), Some(true)));
-    assert_eq!((row.power_level(), row.delay(), row.support()), (Some(200), Some(3), Some([1, 0, -1])));
+    assert_eq!((row.power_level(), row.delay(), row.support()), (Some(12), Some(200), Some([1, 0, -1])));
     assert_eq!(row.arms(), Some([Some(Arm::None), Some(Arm::Side), Some(Arm::Up), None]));
     assert_eq!((row.shape(), row.subtract()), (Shape::Glass, true));
     let cleared = row
@@ -63,32 +63,35 @@ fn a_row_has_each_field_and_can_lose_it() {
     assert_eq!(cleared, bare());
 }
 
-/// What the proved call thinks of a row.
-fn is_accepted(row: &[u8; ROW_BYTES]) -> bool {
+/// The number that the proved call refuses a row with.
+fn refused(row: &[u8; ROW_BYTES]) -> Option<u32> {
     let columns = Columns { signal: &mut [0], weak: &mut [0], strong: &mut [0] };
-    match settle(&BENCH_PROFILE_WITH_BULB, row, &[0], 17, columns) {
-        Ok(_) => true,
-        Err(refusal) => {
-            assert_eq!((refusal.number, refusal.row), (4, 0));
-            false
-        }
-    }
+    let refusal = settle(&BENCH_PROFILE_WITH_BULB, row, &[0], 17, columns).err()?;
+    assert_eq!(refusal.row, 0);
+    Some(refusal.number)
 }
 
-/// A row is read exactly where a call accepts it, and packs to the bytes that it was read from.
+/// A row is read exactly where a call does not find it bad, and packs to the bytes that it was read from. A comparator
+/// with a level above 15 is not bad: it is read, and refused for its level.
 #[test]
-fn a_row_is_read_where_the_calls_accept_it() {
-    for row in [full(), bare()] {
+fn a_row_is_read_where_the_calls_accept_it_or_its_level_alone_is_too_large() {
+    let lever = Row::new(Kind::Lever, [0; 3]).with_power_level(200);
+    for row in [full(), bare(), lever] {
         assert_eq!(Row::try_from(row.bytes()), Ok(row));
         for at in 0..ROW_BYTES {
             for value in 0..=u8::MAX {
                 let mut bytes = row.bytes();
                 bytes[at] = value;
-                let read = Row::try_from(bytes);
-                assert_eq!(read.is_ok(), is_accepted(&bytes), "byte {at} is {value}");
-                match read {
-                    Ok(read) => assert_eq!(read.bytes(), bytes),
-                    Err(field) => assert!(field.byte().abs_diff(at) <= 4, "byte {at}: {field}"),
+                match Row::try_from(bytes) {
+                    Ok(read) => {
+                        let is_overdriven = read.kind() == Kind::Comparator && read.power_level() > Some(15);
+                        assert_eq!(refused(&bytes), is_overdriven.then_some(10), "byte {at} is {value}");
+                        assert_eq!(read.bytes(), bytes);
+                    }
+                    Err(field) => {
+                        assert_eq!(refused(&bytes), Some(4), "byte {at} is {value}");
+                        assert!(field.byte().abs_diff(at) <= 4, "byte {at}: {field}");
+                    }
                 }
             }
         }

@@ -68,14 +68,70 @@ fn fresh_devices_start_as_their_rows_say() {
     let comparator = of(Kind::Comparator);
     assert_eq!(device(comparator), Device::Comparator { level: 0 });
     assert_eq!(device(comparator.with_powered(true)), Device::Comparator { level: 15 });
-    assert_eq!(
-        device(comparator.with_powered(false).with_power_level(200)),
-        Device::Comparator { level: 200 }
-    );
+    for level in 0..=15 {
+        for powered in [None, Some(false), Some(true)] {
+            let row = comparator.with_powered(powered).with_power_level(level);
+            assert_eq!(device(row), Device::Comparator { level });
+        }
+    }
     let bulb = |lit| Device::Bulb { lit, had_power: false };
     assert_eq!(device(of(Kind::CopperBulb)), bulb(false));
     assert_eq!(device(of(Kind::CopperBulb).with_powered(false)), bulb(false));
     assert_eq!(device(of(Kind::CopperBulb).with_powered(true)), bulb(true));
+}
+
+/// What a lever, button or plate has above 15 counts as 15, and to other kinds a level means nothing.
+#[test]
+fn no_level_is_too_large_but_a_comparators() {
+    for &kind in Kind::ALL {
+        for level in 0..=u8::MAX {
+            let row = Row::new(kind, [0, 0, 0]).with_powered(true).with_power_level(level);
+            let made = Circuit::new(&BENCH_PROFILE_WITH_BULB, [row]);
+            if kind == Kind::Comparator && level > 15 {
+                let refusal = made.expect_err("a comparator above 15");
+                assert_eq!((refusal.number, refusal.row), (10, 0));
+                continue;
+            }
+            let given = match kind {
+                Kind::Lever | Kind::Button | Kind::PressurePlate | Kind::Comparator => level.min(15),
+                Kind::RedstoneTorch | Kind::Repeater | Kind::RedstoneBlock => 15,
+                _ => 0,
+            };
+            assert_eq!(made.expect("accepted").settled().signal(), [given], "{kind}, {level}");
+        }
+    }
+}
+
+/// Sources of every level about blocks, dust and comparators, over many ticks.
+#[test]
+fn no_figure_is_above_15() {
+    let source = |level| {
+        Row::new(Kind::PressurePlate, [0, 1, 0])
+            .with_support([0, -1, 0])
+            .with_powered(true)
+            .with_power_level(level)
+    };
+    let comparator = Row::new(Kind::Comparator, [1, 0, 0]).with_facing(Facing::East);
+    let others = [
+        SOLID,
+        comparator.with_power_level(15),
+        comparator.with_position([1, 0, 1]).with_facing(Facing::North).with_power_level(15),
+        SOLID.with_position([2, 0, 0]),
+        Row::new(Kind::RedstoneWire, [2, 1, 0]),
+        comparator.with_position([3, 0, 0]).with_subtract(true),
+        Row::new(Kind::RedstoneLamp, [4, 0, 0]),
+    ];
+    let mut most = 0;
+    for level in 0..=u8::MAX {
+        let mut circuit = circuit(others.into_iter().chain([source(level)]));
+        for _ in 0..6 {
+            let settled = circuit.settled();
+            let figures = [settled.signal(), settled.weak(), settled.strong()].concat();
+            most = figures.into_iter().fold(most, u8::max);
+            circuit.tick(1).expect("accepted");
+        }
+    }
+    assert_eq!(most, 15);
 }
 
 /// The fresh figures are an instant, not the state of rest.
