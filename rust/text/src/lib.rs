@@ -38,7 +38,7 @@
 //! | `facing=` | `North`, `East`, `South`, `West`, `Up`, `Down` |
 //! | `support=` | the step `dx,dy,dz`, each -1, 0 or 1 |
 //! | `powered=` | `true`, `false` |
-//! | `level=`, `delay=` | 0 to 255 |
+//! | `level=`, `delay=` | 0 to 255; no call accepts a comparator's level above [15](redstone::MOST_LEVEL) |
 //! | `arms=` | `North:Side,East:Up`, of `None`, `Side` and `Up`; a side left out has no entry, and `none` is no entry at all |
 //! | `shape=` | `plain`, `bottom_slab`, `top_slab`, `double_slab`, `bottom_stairs`, `top_stairs`, `glass` |
 //! | `mode=` | `compare`, `subtract` |

@@ -1,6 +1,6 @@
 //! A row as text.
 
-use redstone::{Arm, Facing, Kind, Row, Shape};
+use redstone::{Arm, Facing, Kind, MOST_LEVEL, Row, Shape};
 
 use crate::{Error, Line, Word};
 
@@ -33,7 +33,7 @@ const FIELDS: [Field; 8] = [
     },
     Field {
         name: "level",
-        read: |row, word| Ok(row.with_power_level(word.number(0..=u8::MAX)?)),
+        read: |row, word| Ok(row.with_power_level(read_level(row.kind(), word)?)),
         text: |row| row.power_level().map(|level| level.to_string()),
     },
     Field {
@@ -108,6 +108,12 @@ pub fn arms_text(arms: [Option<Arm>; 4]) -> String {
     let entries = SIDES.into_iter().zip(arms).filter_map(|(side, arm)| Some(format!("{side}:{}", arm?)));
     let entries: Vec<_> = entries.collect();
     if entries.is_empty() { NO_ARMS.to_owned() } else { entries.join(",") }
+}
+
+/// A byte, for the calls to refuse where it is too large. What is none is told with the levels that the kind may have.
+fn read_level(kind: Kind, word: Word) -> Result<u8, Error> {
+    let most = if kind == Kind::Comparator { MOST_LEVEL } else { u8::MAX };
+    word.number(0..=u8::MAX).or_else(|_| word.number(0..=most))
 }
 
 fn read_arms(word: Word) -> Result<[Option<Arm>; 4], Error> {

@@ -69,6 +69,8 @@ fn errors_in_a_rows_fields() {
         ),
         ("0,0,0 Solid powered=yes", (1, 21), r#"found "yes", expected a truth value: true or false"#),
         ("0,0,0 Solid level=256", (1, 19), r#"found "256", expected a whole number from 0 to 255"#),
+        ("0,0,0 Comparator level=256", (1, 24), r#"found "256", expected a whole number from 0 to 15"#),
+        ("0,0,0 Comparator level=low", (1, 24), r#"found "low", expected a whole number from 0 to 15"#),
         ("0,0,0 Solid delay=", (1, 19), "found nothing, expected a whole number from 0 to 255"),
         ("0,0,0 Solid delay=-1", (1, 19), r#"found "-1", expected a whole number from 0 to 255"#),
         ("0,0,0 Solid support=0,-1", (1, 21), r#"found "0,-1", expected a step dx,dy,dz"#),

@@ -31,7 +31,7 @@ fn rows() -> Vec<Row> {
     (-FARTHEST..).zip(rows).map(|(x, row)| row.with_position([x, 7 - x, -1])).collect()
 }
 
-/// Every value of a field, on rows without others.
+/// Every value of a field, on rows without others. A level is read, even one that no call accepts of a comparator.
 fn single_fields() -> Vec<Row> {
     let bare = Row::new(Kind::RedstoneWire, [0; 3]);
     let bytes: Vec<_> = (0..=u8::MAX).collect();
@@ -40,7 +40,7 @@ fn single_fields() -> Vec<Row> {
     let arms: Vec<_> = (0..256).map(|code| [0, 2, 4, 6].map(|bits| arms[code >> bits & 3])).collect();
     let places = [i32::MIN, -FARTHEST - 1, -FARTHEST, -1, 0, 1, FARTHEST, FARTHEST + 1, i32::MAX];
     [
-        each(vec![bare], &bytes, Row::with_power_level),
+        each(vec![bare, bare.with_kind(Kind::Comparator)], &bytes, Row::with_power_level),
         each(vec![bare], &bytes, Row::with_delay),
         each(vec![bare], &steps, Row::with_support),
         each(vec![bare], &arms, Row::with_arms),
