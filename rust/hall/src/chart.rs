@@ -9,8 +9,7 @@ const TICKS_SIDE_BY_SIDE: usize = 50;
 
 /// What the signs of the chart stand for.
 const LEGEND: &str = ". off, out or dark   / goes on, lights up   - on, lit   \\ goes off, goes out\n";
-const LEGEND_OF_LEVELS: &str =
-    "comparators: the level where it changes, a to f for 10 to 15 and + for more; = it stays\n";
+const LEGEND_OF_LEVELS: &str = "comparators: the level where it changes, a to f for 10 to 15; = it stays\n";
 
 /// The chart: a line for each device, a sign for each tick.
 #[must_use]
@@ -70,10 +69,10 @@ fn sign(lane: &Lane, tick: usize) -> char {
     }
 }
 
-/// A level as a hexadecimal digit, or `+` where it is above 15.
+/// A level as a hexadecimal digit.
 #[must_use]
 pub fn level_digit(level: u8) -> char {
-    char::from_digit(level.into(), 16).unwrap_or('+')
+    char::from_digit(level.into(), 16).expect("a level is at most 15")
 }
 
 #[cfg(test)]
@@ -89,14 +88,14 @@ mod tests {
     #[test]
     fn a_line_a_device_and_a_sign_a_tick() {
         let text = "0,0,0 PressurePlate level=11\n1,0,0 Comparator facing=East\n9,0,0 RedstoneTorch\n\
-                    9,0,1 Comparator facing=South level=200\nswitch tick 2 0,0,0 on\nswitch tick 4 0,0,0 off\n";
+                    9,0,1 Comparator facing=South level=12\nswitch tick 2 0,0,0 on\nswitch tick 4 0,0,0 off\n";
         let lines = [
             "                  0         1",
             "tick              012345678901",
             "plate 0,0,0       ../-\\.......",
             "torch 9,0,0       ------------",
             "comparator 1,0,0  0==b=0======",
-            "comparator 9,0,1  +f==========",
+            "comparator 9,0,1  cf==========",
             "",
             LEGEND.trim_end(),
             LEGEND_OF_LEVELS,

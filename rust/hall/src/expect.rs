@@ -2,7 +2,7 @@
 
 use std::fmt::{self, Display, Formatter};
 
-use redstone::{Kind, Refusal, Rounds, Row};
+use redstone::{Kind, MOST_LEVEL, Refusal, Rounds, Row};
 use redstone_text::{Error, Line, Word, Words, position_text};
 
 use crate::device::is_candidate;
@@ -26,8 +26,8 @@ struct Subject {
 /// What may be expected of a figure.
 #[derive(Clone, Copy)]
 enum Values {
-    /// A level up to this one.
-    Levels(u8),
+    /// A level.
+    Levels,
     /// One of two words: the first for 0, the second for 1.
     Words([&'static str; 2]),
 }
@@ -37,7 +37,7 @@ const SUBJECTS: &[Subject] = &[
     Subject {
         word: "dust",
         kind: Some(Kind::RedstoneWire),
-        values: Values::Levels(15),
+        values: Values::Levels,
         given: |frame, row| frame.figures(row).signal,
     },
     Subject {
@@ -61,7 +61,7 @@ const SUBJECTS: &[Subject] = &[
     Subject {
         word: "comparator",
         kind: Some(Kind::Comparator),
-        values: Values::Levels(u8::MAX),
+        values: Values::Levels,
         given: |frame, row| frame.devices[row].byte(),
     },
     Subject {
@@ -79,19 +79,14 @@ const SUBJECTS: &[Subject] = &[
     Subject {
         word: "signal",
         kind: None,
-        values: Values::Levels(u8::MAX),
+        values: Values::Levels,
         given: |frame, row| frame.figures(row).signal,
     },
-    Subject {
-        word: "weak",
-        kind: None,
-        values: Values::Levels(u8::MAX),
-        given: |frame, row| frame.figures(row).weak,
-    },
+    Subject { word: "weak", kind: None, values: Values::Levels, given: |frame, row| frame.figures(row).weak },
     Subject {
         word: "strong",
         kind: None,
-        values: Values::Levels(u8::MAX),
+        values: Values::Levels,
         given: |frame, row| frame.figures(row).strong,
     },
 ];
@@ -187,7 +182,7 @@ impl Expectation {
 impl Values {
     fn read(self, words: &mut Words<'_>) -> Result<u32, Error> {
         match self {
-            Self::Levels(most) => number(words, most.into()),
+            Self::Levels => number(words, MOST_LEVEL.into()),
             Self::Words([no, yes]) => {
                 words.expect(&format!("{yes} or {no}"))?.one_of("a state", [(no, 0), (yes, 1)])
             }
@@ -229,7 +224,7 @@ impl Display for Expectation {
             About::Rounds => write!(f, "{ROUNDS} = {value}"),
             About::Blocks => write!(f, "{BLOCKS} = {value}"),
             About::Row(Subject { word, values, .. }, position) => {
-                let sign = if matches!(values, Values::Levels(_)) { "= " } else { "" };
+                let sign = if matches!(values, Values::Levels) { "= " } else { "" };
                 write!(f, "{word} {} {sign}{value}", position_text(position))
             }
         }

@@ -73,7 +73,7 @@ impl Hall {
     /// The profile or the table is refused.
     pub fn from_packed(name: &str, profile: &[u8], table: &[u8]) -> Result<Self, Refused> {
         let fresh = Circuit::from_table(profile, table).map_err(|refusal| {
-            Refused::file(name, format!("{} ({PACKED})", sentence(&refusal, BULB_IN_PACKED)))
+            Refused::file(name, format!("{} ({PACKED})", sentence(&refusal, &IN_PACKED)))
         })?;
         let rows = fresh.blocks().map(|block| block.row).collect();
         Ok(Self { name: name.to_owned(), fresh, rows, switches: Vec::new(), expectations: Vec::new() })
@@ -103,29 +103,41 @@ impl Hall {
 /// A refusal with the line of the row at fault.
 fn refused_table(name: &str, refusal: &Refusal, reader: &TableReader) -> Refused {
     let line = match refusal.fault {
-        Fault::BadRow { position, .. } => reader.line_of(position),
+        Fault::BadRow { position, .. } | Fault::OverdrivenRow { position, .. } => reader.line_of(position),
         _ => None,
     };
     match line {
-        Some(line) => Refused::line(name, line, sentence(refusal, BULB_IN_TEXT)),
-        None => Refused::file(name, sentence(refusal, BULB_IN_TEXT)),
+        Some(line) => Refused::line(name, line, sentence(refusal, &IN_TEXT)),
+        None => Refused::file(name, sentence(refusal, &IN_TEXT)),
     }
 }
 
-/// How a text has a bulb, for which its profile has no byte.
-const BULB_IN_TEXT: &str =
-    " (write CopperBulb=7 into the line `profile`, or give a profile that has it with --profile)";
-/// The same of the packed form, which has no lines. Another bracket follows.
-const BULB_IN_PACKED: &str = ", or give a profile that has the bulb's byte with --profile";
+/// What to do about a row that is refused, after the sentence that says why.
+struct Advice {
+    /// A bulb for which the profile has no byte.
+    bulb: &'static str,
+    /// A comparator whose level is too large.
+    level: &'static str,
+}
 
-/// What a refusal says; and after it, where it is of a bulb without its byte of the profile, what to do.
-fn sentence(refusal: &Refusal, of_bulb: &str) -> String {
+const IN_TEXT: Advice = Advice {
+    bulb: " (write CopperBulb=7 into the line `profile`, or give a profile that has it with --profile)",
+    level: " (write level=15 or less)",
+};
+/// A packed file has no lines to write into. Another bracket follows.
+const IN_PACKED: Advice = Advice {
+    bulb: ", or give a profile that has the bulb's byte with --profile",
+    level: ": clip it where the file is packed",
+};
+
+/// What a refusal says, and what to do.
+fn sentence(refusal: &Refusal, advice: &Advice) -> String {
     let bulb = i64::from(Kind::CopperBulb.code());
-    match refusal.fault {
+    let what_to_do = match refusal.fault {
         // As a kind it is good with a profile that has the byte.
-        Fault::BadRow { field, .. } if field.name() == "kind" && field.value() == bulb => {
-            format!("{refusal}{of_bulb}")
-        }
-        _ => refusal.to_string(),
-    }
+        Fault::BadRow { field, .. } if field.name() == "kind" && field.value() == bulb => advice.bulb,
+        Fault::OverdrivenRow { .. } => advice.level,
+        _ => "",
+    };
+    format!("{refusal}{what_to_do}")
 }

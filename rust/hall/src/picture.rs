@@ -126,7 +126,7 @@ fn sign(row: &Row, frame: &Frame, number: usize, legend: &mut Legend) -> String 
 
 fn meaning(kind: Kind) -> &'static str {
     match kind {
-        Kind::Comparator => "comparator, with its level; + is above 15",
+        Kind::Comparator => "comparator, with its level; a to f are 10 to 15",
         _ => kind_name(kind),
     }
 }
@@ -204,7 +204,7 @@ z=1 T! C<c! L  P   U
 %     transparent block
 /     lever
 B     redstone block
-C     comparator, with its level; + is above 15
+C     comparator, with its level; a to f are 10 to 15
 L     lamp
 P     piston
 R     repeater

@@ -182,7 +182,7 @@ const RULES: &[Rule] = &[
         sentence: "a strongly powered block is beside it, and powers it in the game, not here",
         holds: |view, row| {
             let is_lower =
-                |frame: &Frame, block: usize| frame.figures(row).signal < frame.figures(block).strong.min(15);
+                |frame: &Frame, block: usize| frame.figures(row).signal < frame.figures(block).strong;
             view.kind(row) == Kind::RedstoneWire
                 && view.beside(row).any(|block| {
                     // What a redstone block powers has no power in the game (2), and a bulb gives none on.

@@ -144,7 +144,7 @@ fn draw(text: &mut String, lane: &Lane, left: usize, top: usize, ticks: &Range<u
 /// A lane's height at a tick, of 15.
 fn share(lane: &Lane, tick: usize) -> usize {
     match (lane.has_levels(), lane.values[tick]) {
-        (true, level) => level.min(15).into(),
+        (true, level) => level.into(),
         (false, 0) => 0,
         (false, _) => 15,
     }

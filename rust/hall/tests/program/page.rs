@@ -205,6 +205,6 @@ fn a_page_of_every_kind_and_shape_is_well_formed() {
         }
     }
     // Far away, so that the layers are drawn in parts.
-    text += "1000000,0,-1000000 Comparator facing=East level=200\n-1000000,1000000,0 RedstoneTorch\n";
+    text += "1000000,0,-1000000 Comparator facing=East level=15\n-1000000,1000000,0 RedstoneTorch\n";
     assert_page(&file("page_kinds", "kinds.hall", text));
 }

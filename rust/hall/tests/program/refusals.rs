@@ -147,6 +147,52 @@ fn a_bulb_without_its_byte_of_the_profile_says_what_to_do() {
     }
 }
 
+/// In a hall's line, and packed.
+#[test]
+fn a_comparator_above_15_says_what_to_do() {
+    let rows = |level| {
+        let comparator = Row::new(Kind::Comparator, [0, 1, 0]).with_power_level(level);
+        [Row::new(Kind::Solid, [0, 0, 0]), comparator]
+    };
+    let text = |level: u8| format!("0,1,0 Comparator level={level}  # the store's\n\n0,0,0 Solid\n");
+    for level in [16, 200, 255] {
+        let packed = [&BENCH_PROFILE[..], &redstone::table(rows(level))].concat();
+        let library = refusal(&packed);
+        assert_eq!(
+            library,
+            format!(
+                "refusal 10, overdriven: row 1 at 0,1,0: power level (byte 16) is {level}; a comparator's may be at most 15"
+            )
+        );
+        assert_refused(text(level).as_bytes(), "1:", &format!("{library} (write level=15 or less)"));
+        assert_refused(&packed, "", &format!("{library}: clip it where the file is packed{PACKED}"));
+    }
+    // What it says to do, in either form.
+    let packed = [&BENCH_PROFILE_WITH_BULB[..], &redstone::table(rows(15))].concat();
+    let done = hall_with(&["pack", "-"], text(15).as_bytes());
+    assert_eq!((done.status, done.err.as_str(), &done.out), (Some(0), "", &packed));
+    let done = hall_with(&["unpack", "-"], &packed);
+    assert_eq!((done.status, done.text()), (Some(0), "blocks=2\n0,0,0 Solid\n0,1,0 Comparator level=15\n"));
+}
+
+/// Of the row that comes first in the table, wherever it stands in the text.
+#[test]
+fn of_two_comparators_above_15_the_first_is_told() {
+    let text = b"1,0,0 Comparator level=16\n0,0,0 Comparator level=17\n";
+    let done = hall_with(&["run", "-"], text);
+    let start =
+        "hall: standard input:2: refusal 10, overdriven: row 0 at 0,0,0: power level (byte 16) is 17;";
+    assert!(done.status == Some(2) && done.err.starts_with(start), "{}", done.err);
+}
+
+#[test]
+fn a_lever_above_15_gives_15() {
+    let text = b"0,0,0 Lever powered=true level=200\n1,0,0 RedstoneWire\n\
+                 expect signal 0,0,0 = 15\nexpect dust 1,0,0 = 15\n";
+    let done = hall_with(&["check", "-"], text);
+    assert_eq!(done.status, Some(0), "{}", done.text());
+}
+
 #[test]
 fn each_refusal_of_the_text_form() {
     let solid = |x| Row::new(Kind::Solid, [x, 0, 0]);

@@ -117,6 +117,14 @@ fn halls_with_bulbs_are_refused() {
 }
 
 #[test]
+fn halls_with_a_comparator_above_15_are_refused() {
+    let over = file("stream_over", "over.hall", "0,0,0 Solid\n0,1,0 Comparator level=16\n");
+    let done = hall(&["stream", "halls/slab-rise.hall", &over]);
+    assert_eq!((done.status, done.out), (Some(2), vec![]));
+    assert!(done.err.starts_with(&format!("hall: {over}:2: refusal 10, overdriven: ")), "{}", done.err);
+}
+
+#[test]
 fn what_is_left_out_is_told_of_all_halls_together() {
     let two = file("stream_two", "two.hall", "0,0,0 Solid\nexpect rounds = 2\nexpect blocks = 1\n");
     let one = file("stream_one", "one.hall", "0,0,0 Solid\nexpect rounds = 2\n");
