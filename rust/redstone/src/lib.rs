@@ -130,13 +130,30 @@ pub const STATE_BYTES: usize = 16;
 pub const PROFILE_BYTES: usize = 13;
 /// Bytes of a profile for tables that may have bulbs, whose byte is the last. It is good for any table.
 pub const PROFILE_BYTES_WITH_BULB: usize = 14;
-/// The largest level: every signal, every weak and every strong power that a call writes is from 0 to this, and so is a
-/// comparator's level.
-pub const MOST_LEVEL: u8 = 15;
 /// The most rows that a table may have.
 pub const MOST_ROWS: usize = 1024;
 /// The largest coordinate; its negative is the smallest.
 pub const FARTHEST: i32 = 1_000_000;
+
+/// The largest level: every signal, every weak and every strong power that a call writes is from 0 to this.
+///
+/// A comparator with a larger one is refused. Who has such rows clips them:
+///
+/// ```
+/// use redstone::{BENCH_PROFILE, Circuit, Kind, MOST_LEVEL, Row};
+///
+/// let comparator = Row::new(Kind::Comparator, [0, 0, 0]).with_power_level(200);
+/// let refusal = Circuit::new(&BENCH_PROFILE, [comparator]).unwrap_err();
+/// assert_eq!(
+///     refusal.to_string(),
+///     "refusal 10, overdriven: row 0 at 0,0,0: power level (byte 16) is 200; a comparator's may be at most 15"
+/// );
+///
+/// let clipped = comparator.with_power_level(comparator.power_level().map(|level| level.min(MOST_LEVEL)));
+/// assert_eq!(Circuit::new(&BENCH_PROFILE, [clipped])?.settled().signal(), [15]);
+/// # Ok::<(), redstone::Refusal>(())
+/// ```
+pub const MOST_LEVEL: u8 = 15;
 
 /// The bench's own profile: solid blocks and lamps conduct, and they, transparent blocks and redstone blocks carry
 /// components. Torches power no block: [`TORCH_CHARGES_ABOVE`] is clear.
