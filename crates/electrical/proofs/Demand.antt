@@ -19,7 +19,7 @@ use Rattle.network.specs.Demand as Network
 use Rattle.blocks.specs.Kind.{isDust}
 use Rattle.world.specs.Rows.{rows, kindOf}
 use Rattle.traits.specs.Traits.{traits, conducts}
-use Rattle.refusals.specs.declared.Checked.the-variants.{Accepted, Refused}
+use Rattle.refusals.specs.declared.Checked.the-variants.{Refused}
 use Rattle.refusals.specs.Check.{IsAccepted}
 use Rattle.refusals.specs.Answers.{Gives, Tells}
 use Rattle.refusals.proofs.Passed.{or-accepted}

@@ -1,5 +1,5 @@
 -- `emitted::device::check_column` meets its contract: a row at fault is one of at most 1,024, so its number fits. Assumes nothing.
-use mathlib.Core.Path.{_≡_, refl}
+use mathlib.Core.Path.{_≡_}
 use Prim.Native.Nat.{ℕ, _*_}
 use native.Mathlib.Nat.{mul-one}
 use native.Mathlib.Omega.{arith}
