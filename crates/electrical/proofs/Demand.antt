@@ -1,18 +1,18 @@
--- Demand 3, over tables, in the order of its sentences, which stand in quotation marks; and after them document 02, Change 5. A theorem that asks for no accepted table and no valid
--- column holds of every table and every column. The profile p is taken as given, with value 32 of the torch's byte or without, of 13 bytes or 14,
+-- Demand 3, over tables, in the order of its sentences, which stand in quotation marks; and after them document 02, Change 5. A theorem that
+-- asks for no accepted table and no valid column holds of every table and every column. The profile p is taken as given, with value 32 of the torch's byte or without, of 13 bytes or 14,
 -- and a table with bulbs or without: nothing here asks which. `Settles` is what the editor's call `redstone_settle` ensures of its buffers and its answer.
 -- Assumes nothing.
 use mathlib.Core.Path.{_≡_, refl}
 use mathlib.Core.Bool.{true, false}
 use Prim.Native.Nat.{ℕ, _/_, _≤_, _<_, max}
-use native.Mathlib.Nat.{le-refl, le-trans}
+use native.Mathlib.Nat.{le-trans}
 use native.Mathlib.Omega.{arith}
 use lib.ListN.{length}
 use borrow.Author.Tests.{le-leb}
 use Rattle.columns.specs.Column.{Bytes, Column, row}
-use Rattle.columns.specs.Signal.{maxSignal}
+use Rattle.columns.specs.Signal.{maxSignal, AtMost15}
 use Rattle.network.specs.Network.{Rounds, Satisfies, Breaks}
-use Rattle.network.specs.Compare.{Larger, AtMost, Within, AtEveryRow₂, AtEveryRow₃, States₂, States₃, Bounded, PowerOnMap}
+use Rattle.network.specs.Compare.{Larger, AtMost, Within, AtEveryRow₂, AtEveryRow₃, States₂, States₃, PowerOnMap}
 use Rattle.network.specs.Settled.{settled as networkSettled}
 use Rattle.network.specs.Laws.States.{Sized, after-sized}
 use Rattle.network.specs.Demand as Network
@@ -26,7 +26,6 @@ use Rattle.refusals.proofs.Passed.{or-accepted}
 use Rattle.refusals.proofs.Gives.{not-given}
 use Rattle.refusals.proofs.Tells.{told-accepted, accepted-told, never-told}
 use Rattle.arms.specs.Arms.{armOf}
-use Rattle.levels.specs.Numbers.{AtMost15}
 use Rattle.emitted.specs.Emitted.{IsValid, emittedLevel, emitted}
 use Rattle.edges.specs.Edges.{networkOf}
 use Rattle.electrical.specs.Answer.{roundsOf, settled, goodColumns, checkCall, checkSettle, ofCall, ofSettle, Passed, Settles, SettledTo, Unchanged}
@@ -187,18 +186,16 @@ pub emitted-at-most-15 : (t : Bytes) (d : Column) → IsValid t d → (i : ℕ) 
 emitted-at-most-15 t d v = emitted-capped t d (valid-devices t d v .low)
 
 -- so that what settles is, too,
-pub settled-at-most-15 : (p t : Bytes) (d : Column) → IsValid t d → Bounded maxSignal (settled p t d)
+pub settled-at-most-15 : (p t : Bytes) (d : Column) → IsValid t d → AtMost15 (settled p t d .signal) (settled p t d .weak) (settled p t d .strong)
 unfolding settled
-settled-at-most-15 p t d v = Network.settled-bounded (networkOf p t) (emitted t d) maxSignal (le-refl maxSignal) (emitted-at-most-15 t d v)
+settled-at-most-15 p t d v = Network.settled-bounded (networkOf p t) (emitted t d) (emitted-at-most-15 t d v)
 
 -- and so is every number of three columns that hold what d settles to
 pub settled-to-at-most-15 : {p t : Bytes} {d signal weak strong : Column} {r : ℕ} → IsValid t d → SettledTo p t d signal weak strong r
     → AtMost15 signal weak strong
-settled-to-at-most-15 {p} {t} {d} v s =
-    let low = settled-at-most-15 p t d v in
-    record { signals = rw (s .signals) (low .signal); weaks = rw (s .weaks) (low .weak); strongs = rw (s .strongs) (low .strong) }
+settled-to-at-most-15 {p} {t} {d} v s = rw (s .signals, s .weaks, s .strongs) (settled-at-most-15 p t d v)
 
--- such as settle, where it does not refuse
+-- such as those that settle writes, where it does not refuse
 pub settle-at-most-15 : {p t : Bytes} {d : Column} {limit : ℕ} {signal weak strong signal′ weak′ strong′ : Column} {r : ℕ}
     → Settles p t d limit signal weak strong signal′ weak′ strong′ r → r < 65536 → AtMost15 signal′ weak′ strong′
 settle-at-most-15 {p} {t} {d} s h =

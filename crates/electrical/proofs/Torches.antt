@@ -85,7 +85,7 @@ module _ {p t : Bytes} {d : Column} {j i : ℕ} (value : torchChargesAbove p ≡
       (rw (reached, lit) at (le-top (rows t) (λ k. cond (emittedToStrong p t k i) (row (emitted t d) k) 0) j (o .torch-inside)))
 
   pub torch-charges : IsValid t d → row (settled p t d .strong) i ≡ maxSignal
-  torch-charges v = le-antisymm (settled-at-most-15 p t d v .strong i) reaches
+  torch-charges v = le-antisymm (settled-at-most-15 p t d v .strongs i) reaches
 
   -- and 15 is what settle writes, where it does not refuse
   pub torch-charges-written : {limit : ℕ} {signal weak strong signal′ weak′ strong′ : Column} {r : ℕ}

@@ -21,7 +21,8 @@ isOnOff k = oneOf (RedstoneTorch ∷ Repeater ∷ []) k
 
 -- ---- valid device columns
 
--- "repeater powered or torch lit 0/1, comparator 0-255, other kinds 0", of the kind k and the byte b; above 15 a comparator's is number 10, below
+-- "repeater powered or torch lit 0/1, comparator 0-255, other kinds 0", of the kind k and the byte b; a comparator's above 15 is good here, and
+-- number 10's in `checkDevices`
 unfoldable pub goodDevice : ℕ → ℕ → Bool
 goodDevice k b = cond (isOnOff k) (leb b 1) (eqb k Comparator || eqb b 0)
 
@@ -43,7 +44,7 @@ unfoldable pub switchLevel : Bytes → ℕ → ℕ
 switchLevel t i = cond (isPowered t i) (min maxSignal (levelOr t i maxSignal)) 0
 
 -- of row i, whose device byte is b: "redstone block 15; lever, button or plate ..; lit torch or powered repeater 15; comparator
--- its byte, not capped; else 0". With a valid column it is "at most 15 for every kind": `emitted-at-most-15`
+-- its byte, not capped; else 0". With a valid column it is "at most 15 for every kind": `emits-at-most-15`
 unfoldable pub emittedLevel : Bytes → ℕ → ℕ → ℕ
 emittedLevel t i b =
     cond (eqb (kindOf t i) RedstoneBlock) maxSignal

@@ -1,7 +1,6 @@
 -- Laws of what fresh leaves in columns of one entry a row, which are the front of arrays of zeros.
 -- Assumes nothing.
-use mathlib.Core.Path.{_≡_, refl, ap, _∙_}
-use mathlib.Core.Bool.{true}
+use mathlib.Core.Path.{_≡_, ap, _∙_}
 use mathlib.Core.List.{_++_}
 use Prim.Native.Nat.{ℕ, _*_, _≤_}
 use native.Mathlib.Omega.{arith}
@@ -12,7 +11,8 @@ use Rattle.columns.specs.Column.{Bytes, Column}
 use Rattle.world.specs.Rows.{rows}
 use Rattle.refusals.specs.declared.Checked.{Checked}
 use Rattle.refusals.specs.declared.Checked.the-variants.{Accepted, Refused}
-use Rattle.refusals.specs.Check.{checkInput, also, written}
+use Rattle.refusals.specs.Check.{checkInput, written}
+use Rattle.refusals.proofs.Passed.{or-accepted}
 use Rattle.updates.specs.Calls.{checkFresh}
 use Rattle.initial.specs.SettlesFresh.{zeros, columnOf}
 
@@ -33,10 +33,6 @@ column-front n c numbers column a l e = rw (e, a) (take-at numbers (drop (length
 pub column-sized : (c : Checked) (numbers : Column) → length numbers ≤ 1024 → length (columnOf c numbers) ≡ 1024
 column-sized Accepted numbers l = rw (length-append, length-drop, length-replicate) (omega arith)
 column-sized (Refused n i) numbers l = length-replicate {A = ℕ} 1024 0
-
-or-accepted : (c : Checked) → also c 7 true ≡ c
-or-accepted Accepted = refl
-or-accepted (Refused n i) = refl
 
 -- with columns of one entry a row, and sixteen bytes of state, fresh refuses what the table and the profile are refused for
 pub fresh-check : (p t : Bytes) (state signal weak strong : ℕ) → state ≡ rows t * 16 → signal ≡ rows t → weak ≡ rows t → strong ≡ rows t

@@ -45,12 +45,6 @@ pub record States₃ (R : Rel₃) (x y z : State) : Type 0 where
   pub weak : AtEveryRow₃ R (x .weak) (y .weak) (z .weak)
   pub strong : AtEveryRow₃ R (x .strong) (y .strong) (z .strong)
 
--- every number of a state is at most m
-pub record Bounded (m : ℕ) (s : State) : Type 0 where
-  pub signal : (i : ℕ) → row (s .signal) i ≤ m
-  pub weak : (i : ℕ) → row (s .weak) i ≤ m
-  pub strong : (i : ℕ) → row (s .strong) i ≤ m
-
 -- power reaches only rows of the map
 pub record PowerOnMap (N : Network) : Type 0 where
   pub emittedToStrong : (j i : ℕ) → N .mapped i ≡ false → N .emittedToStrong j i ≡ false

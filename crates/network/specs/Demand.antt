@@ -8,12 +8,12 @@ use Prim.Native.Nat.{ℕ, _≤_, _<_, max}
 use native.Mathlib.Nat.{le-refl, le-trans, le-antisymm, le-max-left, le-max-right, min-le-left}
 use native.Mathlib.Omega.{arith}
 use Rattle.columns.specs.Column.{Column, row}
-use Rattle.columns.specs.Signal.{maxSignal}
+use Rattle.columns.specs.Signal.{maxSignal, AtMost15}
 use Rattle.columns.proofs.Columns.{row-tabulate}
 use Rattle.network.specs.Levels.{arriving}
 use Rattle.network.specs.Network.{Network, strongOf, level, round, after, Answers, Rounds, Satisfies, Breaks}
 use Rattle.network.specs.Settled.{settling, roundsOf, settled}
-use Rattle.network.specs.Compare.{Rel₂, Rel₃, Larger, AtMost, Within, AtEveryRow₂, AtEveryRow₃, States₂, States₃, Bounded, PowerOnMap}
+use Rattle.network.specs.Compare.{Rel₂, Rel₃, Larger, AtMost, Within, AtEveryRow₂, AtEveryRow₃, States₂, States₃, PowerOnMap}
 use Rattle.network.specs.Laws.Kept.{Kept, after-kept}
 use Rattle.network.specs.Laws.Settle.{seventeen, stay, satisfied, satisfied-is, satisfied-or}
 use Rattle.network.specs.Laws.FirstAnswering.{none-yet}
@@ -81,12 +81,12 @@ module _ (N : Network) (e : Column) where
   unfolding round
   off-map o i off = rw (← settled-again) (weakOf-off N o i off _ _, strongOf-off N o i off e)
 
-  -- No settled number is above m, where no emitted level is and m is at least the cap.
-  pub settled-bounded : (m : ℕ) → maxSignal ≤ m → ((i : ℕ) → row e i ≤ m) → Bounded m (settled N e)
-  settled-bounded m c h = rw settled-is (record { signal = all .signal .at; weak = all .weak .at; strong = all .strong .at })
+  -- No settled number is above the cap, where no emitted level is.
+  pub settled-bounded : ((i : ℕ) → row e i ≤ maxSignal) → AtMost15 (settled N e .signal) (settled N e .weak) (settled N e .strong)
+  settled-bounded h = rw settled-is (record { signals = all .signal .at; weaks = all .weak .at; strongs = all .strong .at })
     where
       Below : Rel₃
-      Below x y z = x ≤ m
+      Below x y z = x ≤ maxSignal
 
       kept : Kept Below Below
       kept = omega arith

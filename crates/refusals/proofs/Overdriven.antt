@@ -1,5 +1,5 @@
 -- Document 02, Change 5: where number 10 is given, at which row, and what goes before it. No row of an accepted table is overdriven: that is `low`
--- of `Table`.
+-- of `Table`. In a name 04 is for the tests as they were before this change, with Change 4.
 -- Assumes nothing.
 use mathlib.Core.Path.{_≡_, refl, ap, sym, _∙_}
 use mathlib.Core.Bool.{Bool, true, false}
@@ -14,13 +14,13 @@ use Rattle.columns.specs.declared.Found.the-variants.{At, Nothing}
 use Rattle.columns.specs.Column.{Bytes}
 use Rattle.columns.specs.First.{firstFrom}
 use Rattle.columns.specs.Signal.{maxSignal}
-use Rattle.columns.proofs.First.{IsFirst, first-at, at-first, first-none, none-first}
+use Rattle.columns.proofs.First.{IsFirst, first-at, at-first, first-none}
 use Rattle.world.specs.Rows.{rows}
 use Rattle.layout.specs.Good.{goodProfile}
 use Rattle.refusals.specs.declared.Checked.{Checked}
 use Rattle.refusals.specs.declared.Checked.the-variants.{Accepted, Refused}
 use Rattle.refusals.specs.Check.{refuseUnless, refuseAt, orElse, isBad, isMisplaced, isOverdriven, isOverdrivenDevice, checkOverdriven, checkRows, checkTable, checkInput, checkValues}
-use Rattle.refusals.proofs.Passed.{never, or-accepted}
+use Rattle.refusals.proofs.Passed.{never, rows-pass, rows-else, or-accepted}
 
 -- ---- tests, and those after them
 
@@ -29,16 +29,9 @@ unless-else : (n : ℕ) (b : Bool) (c next : Checked) → refuseUnless n b (orEl
 unless-else n true c next = refl
 unless-else n false c next = refl
 
-rows-else : (n d : ℕ) (f : Found) (c next : Checked) → refuseAt n d f (orElse c next) ≡ orElse (refuseAt n d f c) next
-rows-else n d (At i) c next = refl
-rows-else n d Nothing c next = refl
-
--- a test of each of n rows gives the first at fault, "row as for 4", and nothing where none is
+-- a test of each of n rows gives the first at fault: "row as for 4"
 first-refused : (m : ℕ) (f : ℕ → Bool) (n i : ℕ) → IsFirst f 0 n i → refuseAt m 0 (firstFrom f n 0) Accepted ≡ Refused m i
 first-refused m f n i h = rw (at-first f n 0 i h) (ap (Refused m) (add-zero i))
-
-none-refused : (m d : ℕ) (f : ℕ → Bool) (n : ℕ) → ((i : ℕ) → i < n → f i ≡ false) → refuseAt m d (firstFrom f n 0) Accepted ≡ Accepted
-none-refused m d f n h = rw (none-first f n 0 (λ i _ l. h i (omega arith))) refl
 
 refused-first : (m : ℕ) (f : ℕ → Bool) (n : ℕ) {i : ℕ} → refuseAt m 0 (firstFrom f n 0) Accepted ≡ Refused m i → IsFirst f 0 n i
 refused-first m f n {i} e = go (firstFrom f n 0) refl e
@@ -86,14 +79,14 @@ module _ (p t : Bytes) where
 
   -- where no row is overdriven, what falls is what fell before the change
   pub input-04 : ((i : ℕ) → i < rows t → isOverdriven t i ≡ false) → checkInput p t ≡ checkInput04
-  input-04 none = just-after-5 ∙ rw (none-refused 10 0 (isOverdriven t) (rows t) none) (or-accepted checkInput04)
+  input-04 none = just-after-5 ∙ rw (rows-pass 10 0 (isOverdriven t) (rows t) Accepted none refl) (or-accepted checkInput04)
 
   -- and it goes before 10, whatever is overdriven
   pub input-04-first : {n i : ℕ} → checkInput04 ≡ Refused n i → checkInput p t ≡ Refused n i
   input-04-first h = just-after-5 ∙ rw h refl
 
   module _ (i : ℕ) where
-    -- where 10 is given, nothing else falls, and the row is the first that is overdriven;
+    -- where 10 is given, none of 1 to 5 falls, and the row is the first that is overdriven;
     pub given-overdriven : checkInput p t ≡ Refused 10 i → (checkInput04 ≡ Accepted) × IsFirst (isOverdriven t) 0 (rows t) i
     unfolding checkInput checkTable checkRows
     given-overdriven h =
@@ -125,7 +118,7 @@ module _ (sized : Bool) (isBadValue : ℕ → Bool) (device : ℕ → ℕ) (n : 
   pub values-04 : ((i : ℕ) → i < n → device i ≤ maxSignal) → checkValues sized isBadValue device n ≡ checkValues04
   values-04 low =
       just-after-6
-      ∙ rw (none-refused 10 0 (isOverdrivenDevice device) n (λ i l. le-ltb maxSignal (device i) (low i l))) (or-accepted checkValues04)
+      ∙ rw (rows-pass 10 0 (isOverdrivenDevice device) n Accepted (λ i l. le-ltb maxSignal (device i) (low i l)) refl) (or-accepted checkValues04)
 
   -- and it goes before 10: a 6 at any row before a 10 at any row
   pub values-04-first : {m i : ℕ} → checkValues04 ≡ Refused m i → checkValues sized isBadValue device n ≡ Refused m i

@@ -1,6 +1,6 @@
 -- What a test says that passes, and tests in a row.
 -- Assumes nothing.
-use mathlib.Core.Path.{_≡_, refl}
+use mathlib.Core.Path.{_≡_, refl, sym}
 use mathlib.Core.Bool.{Bool, true, false}
 use Prim.Native.Nat.{ℕ, _+_, _≤_, _<_}
 use native.Mathlib.Omega.{arith}
@@ -72,10 +72,14 @@ module _ (sized : Bool) (f : ℕ → Bool) (device : ℕ → ℕ) (k : ℕ) wher
 
 -- ---- tests in a row
 
+-- a test of rows, and those that come next
+pub rows-else : (n d : ℕ) (f : Found) (c next : Checked) → refuseAt n d f (orElse c next) ≡ orElse (refuseAt n d f c) next
+rows-else n d (At i) c next = refl
+rows-else n d Nothing c next = refl
+
 -- a test of rows that is made by itself, and what comes next
 pub at-else : (n d : ℕ) (f : Found) (next : Checked) → orElse (refuseAt n d f Accepted) next ≡ refuseAt n d f next
-at-else n d (At i) next = refl
-at-else n d Nothing next = refl
+at-else n d f next = sym (rows-else n d f Accepted next)
 
 -- one more test, after the first refusal of two, is one more after the second
 pub also-after : (a b : Checked) (n : ℕ) (passed : Bool) → also (orElse a b) n passed ≡ orElse a (also b n passed)

@@ -42,7 +42,7 @@ settled-few p t h =
     let table = accepted-input p t h .1 in
     let low = settled-at-most-15 p t d (fresh-devices-valid t table) in
     let lines = concatRows-short 40 (rowOf t (s .signal) (s .weak) (s .strong)) (rows t)
-    (λ i l. row-few (posOf t i) _ _ _ (in-range t table i l) (low .signal i) (low .weak i) (low .strong i)) in
+    (λ i l. row-few (posOf t i) _ _ _ (in-range t table i l) (low .signals i) (low .weaks i) (low .strongs i)) in
     rw (length-append, length-append)
     (omega (arith, lines, table .few, line-few (ascii "blocks=") (rows t) 3 (omega (arith, table .few)), line-few (ascii "rounds=") (roundsOf p t d) 1 (omega (arith, rounds-range p t d))))
 

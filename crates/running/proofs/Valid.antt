@@ -97,7 +97,7 @@ module _ (p t st : Bytes) (h : IsValidState t st) where
   unfolding settledOf
   level-low j =
       let s = settled-at-most-15 p t (devicesOf t st) (devices-of-valid t st h) in
-      max-le (s .signal j) (max-le (s .weak j) (s .strong j))
+      max-le (s .signals j) (max-le (s .weaks j) (s .strongs j))
 
   -- once its devices are set
   pub set-devices-valid : IsValidState t (setDevices p t st)

@@ -3,11 +3,11 @@
 -- Assumes nothing.
 use Prim.Native.Nat.{ℕ, _<_}
 use Rattle.columns.specs.Column.{Bytes, Column}
+use Rattle.columns.specs.Signal.{AtMost15}
 use Rattle.places.specs.declared.Pos.{Pos}
 use Rattle.refusals.specs.Check.{IsAccepted}
 use Rattle.refusals.proofs.Accepted.{accepted-input}
 use Rattle.refusals.proofs.Tells.{told-accepted}
-use Rattle.levels.specs.Numbers.{AtMost15}
 use Rattle.electrical.proofs.Demand.{settled-to-at-most-15}
 use Rattle.updates.specs.State.{IsValidState, devicesOf}
 use Rattle.updates.specs.Calls.{Fresh, Ticks, Switches}

@@ -42,7 +42,7 @@ module _ (t : Bytes) (s : Numbers) (low : (j : ℕ) → electricalLevel s j ≤ 
   rear-low (At j) = low j
   rear-low Nothing = zero-le
 
-  pub next-low : nextComparator t s i ≤ maxSignal
+  next-low : nextComparator t s i ≤ maxSignal
   unfolding nextComparator
   next-low = le-trans (compared-low (isSubtract t i) _ _) (rear-low (findAt t (inputOf t i)))
 
