@@ -127,7 +127,7 @@ const IN_TEXT: Advice = Advice {
 /// A packed file has no lines to write into. Another bracket follows.
 const IN_PACKED: Advice = Advice {
     bulb: ", or give a profile that has the bulb's byte with --profile",
-    level: ": clip it where the file is packed",
+    level: ": set it to 15 or less in what packs the file",
 };
 
 /// What a refusal says, and what to do.

@@ -21,7 +21,7 @@
  *                   (with a profile of 14 bytes alone)
  *   13              facing: 0 missing, 1 North (0,0,-1), 2 East (1,0,0), 3 South (0,0,1), 4 West (-1,0,0), 5 Up, 6 Down
  *   14              powered: 0 missing, 1 false, 2 true
- *   15, 16          power level given 0/1, its value
+ *   15, 16          power level given 0/1, its value, at most 15 for a comparator
  *   17, 18          delay given 0/1, its value
  *   19, 20-22       support offset given 0/1, its dx, dy, dz as signed bytes -1 to 1
  *   23, 24-27       arms stored 0/1; North, East, South, West: 0 no entry, 1 None, 2 Side, 3 Up

@@ -1,11 +1,11 @@
-//! The fields of a packed row: where each stands, how it is read, and what is said of a value outside the layout.
+//! The fields of a packed row or state: where each stands, how it is read, and what is said of a value that it may not have.
 
 use std::error::Error;
 use std::fmt::{self, Display, Formatter};
 
 use crate::code::{Coded, Named, coded_name, one_of};
 
-/// A field of a packed row, by its name and its first byte.
+/// A field of a packed row or state, by its name and its first byte.
 #[derive(Clone, Copy, Debug, Eq, Hash, PartialEq)]
 pub(crate) struct Field {
     pub name: &'static str,
@@ -85,7 +85,7 @@ impl Field {
     }
 }
 
-/// A field outside the layout of a packed row.
+/// A field of a packed row or state with a value that it may not have.
 ///
 /// ```
 /// use redstone::{Kind, Row};

@@ -110,7 +110,8 @@ pub fn arms_text(arms: [Option<Arm>; 4]) -> String {
     if entries.is_empty() { NO_ARMS.to_owned() } else { entries.join(",") }
 }
 
-/// A byte, for the calls to refuse where it is too large. What is none is told with the levels that the kind may have.
+/// Any byte: a comparator's above 15 is for the calls to refuse. Of a word that is no byte, the error has the levels that
+/// the kind may have.
 fn read_level(kind: Kind, word: Word) -> Result<u8, Error> {
     let most = if kind == Kind::Comparator { MOST_LEVEL } else { u8::MAX };
     word.number(0..=u8::MAX).or_else(|_| word.number(0..=most))
