@@ -32,8 +32,9 @@ A file may have lines with expectations beside its rows:
     expect tick 8 lamp 12,1,0 dark
 
 Without `tick` an expectation is about tick 0. Each may be about: dust, comparator, signal, weak or strong, with a position
-and a level from 0 to 15; lamp or bulb (lit, dark), torch (lit, out), candidate (yes, no) or repeater (on, off), with a position; rounds
-or blocks. A line that cannot be read, or that speaks of a position where no such block stands, is an error.
+and a level from 0 to 15; lamp or bulb (lit, dark), torch (lit, out), candidate (yes, no) or repeater (on, off), with a
+position; rounds or blocks. A line that cannot be read, or that speaks of a position where no such block stands, is an
+error.
 Each file has a line: ok, DIFFERS or REFUSED, with the number of hints that `hall run` gives, where the game is known to
 differ. The files are run on all cores, and their lines stand in the order given.",
     options: &[&PROFILE],

@@ -165,7 +165,11 @@ fn a_comparator_above_15_says_what_to_do() {
             )
         );
         assert_refused(text(level).as_bytes(), "1:", &format!("{library} (write level=15 or less)"));
-        assert_refused(&packed, "", &format!("{library}: set it to 15 or less in what packs the file{PACKED}"));
+        assert_refused(
+            &packed,
+            "",
+            &format!("{library}: set it to 15 or less in what packs the file{PACKED}"),
+        );
     }
     // What it says to do, in either form.
     let packed = [&BENCH_PROFILE_WITH_BULB[..], &redstone::table(rows(15))].concat();
