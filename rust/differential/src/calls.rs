@@ -67,10 +67,7 @@ impl AnyCall {
     /// The device column or the state of a call that reads one, and the bytes of it that are a row's.
     pub fn devices(&mut self) -> (&mut Vec<u8>, usize) {
         match self {
-            Self::Settling(Call { input: Input::Settle { devices, .. }, .. }) => (devices, 1),
-            Self::Settling(Call {
-                input: Input::Tick { state, .. } | Input::Switch { state, .. }, ..
-            }) => (state, STATE_BYTES),
+            Self::Settling(Call { input, .. }) => input.devices().expect("a call that reads devices"),
             other => unreachable!("{other:?} reads no devices"),
         }
     }

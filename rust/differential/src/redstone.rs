@@ -9,7 +9,7 @@ mod state;
 
 use original::electrical::{InstantaneousElectricalState, PoweredBlockState, solve_instantaneous};
 use original::world::World;
-use redstone::{Columns, ROW_BYTES, Rounds};
+use redstone::{Columns, ROW_BYTES, Rounds, STATE_BYTES};
 
 use crate::bulb::READING;
 use crate::compare::{Answer, Answers, Compared, Query, Tally, compare};
@@ -45,6 +45,17 @@ pub enum Input {
     Settle { devices: Vec<u8>, limit: u32 },
     Tick { state: Vec<u8>, tick: u32, ticks: u32 },
     Switch { state: Vec<u8>, at: Position, powered: bool },
+}
+
+impl Input {
+    /// The device column or the state, if the call reads one, and the bytes of it that are a row's.
+    pub fn devices(&mut self) -> Option<(&mut Vec<u8>, usize)> {
+        match self {
+            Self::Fresh { .. } => None,
+            Self::Settle { devices, .. } => Some((devices, 1)),
+            Self::Tick { state, .. } | Self::Switch { state, .. } => Some((state, STATE_BYTES)),
+        }
+    }
 }
 
 impl Call {

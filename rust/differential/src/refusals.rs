@@ -140,7 +140,7 @@ fn misplaced(table: &[u8], row: usize) -> bool {
 }
 
 /// Document 02, Change 5: "comparator rows with a given level above 15".
-fn overdriven(row: &[u8]) -> bool {
+pub fn overdriven(row: &[u8]) -> bool {
     row[12] == Kind::Comparator.code() && row[15] == 1 && row[16] > HIGHEST_LEVEL
 }
 

@@ -2,7 +2,7 @@
 
 use redstone::{Kind, ROW_BYTES};
 
-use crate::refusals::{Asked, Devices, ORDER, Order, Test};
+use crate::refusals::{Asked, Devices, ORDER, Order, Test, overdriven};
 
 pub struct Misreading {
     pub what: &'static str,
@@ -27,10 +27,10 @@ pub const MISREADINGS: [Misreading; 52] = [
         order[OVERDRIVEN_ROW].fault = |asked| above(asked, 14);
     }),
     misreading("levels above 127 are negative and pass", |order| {
-        order[OVERDRIVEN_ROW].fault = |asked| row_with(asked, |row| is_overdriven(row) && row[16] < 128);
+        order[OVERDRIVEN_ROW].fault = |asked| row_with(asked, |row| overdriven(row) && row[16] < 128);
     }),
     misreading("the level 255 means none and passes", |order| {
-        order[OVERDRIVEN_ROW].fault = |asked| row_with(asked, |row| is_overdriven(row) && row[16] < 255);
+        order[OVERDRIVEN_ROW].fault = |asked| row_with(asked, |row| overdriven(row) && row[16] < 255);
     }),
     misreading("a lever is overdriven, too", |order| order[OVERDRIVEN_ROW].fault = overdriven_or_of::<LEVER>),
     misreading("a button is overdriven, too", |order| {
@@ -51,16 +51,16 @@ pub const MISREADINGS: [Misreading; 52] = [
     }),
     misreading("a comparator without a level is overdriven", |order| {
         order[OVERDRIVEN_ROW].fault =
-            |asked| row_with(asked, |row| is_overdriven(row) || is_of(Kind::Comparator, row) && row[15] == 0);
+            |asked| row_with(asked, |row| overdriven(row) || is_of(Kind::Comparator, row) && row[15] == 0);
     }),
     misreading("a level counts where powered is true", |order| {
-        order[OVERDRIVEN_ROW].fault = |asked| row_with(asked, |row| is_overdriven(row) && row[14] == 2);
+        order[OVERDRIVEN_ROW].fault = |asked| row_with(asked, |row| overdriven(row) && row[14] == 2);
     }),
     misreading("a level counts where powered is not true", |order| {
-        order[OVERDRIVEN_ROW].fault = |asked| row_with(asked, |row| is_overdriven(row) && row[14] != 2);
+        order[OVERDRIVEN_ROW].fault = |asked| row_with(asked, |row| overdriven(row) && row[14] != 2);
     }),
     misreading("a comparator that faces nowhere passes", |order| {
-        order[OVERDRIVEN_ROW].fault = |asked| row_with(asked, |row| is_overdriven(row) && row[13] != 0);
+        order[OVERDRIVEN_ROW].fault = |asked| row_with(asked, |row| overdriven(row) && row[13] != 0);
     }),
     misreading("rows are tested where the call reads devices", |order| {
         order[OVERDRIVEN_ROW].fault = |asked| asked.devices.and_then(|_| right(OVERDRIVEN_ROW, asked));
@@ -75,7 +75,7 @@ pub const MISREADINGS: [Misreading; 52] = [
     misreading("an overdriven row is a bad row", |order| order[OVERDRIVEN_ROW].number = 4),
     misreading("an overdriven row is a misplaced one", |order| order[OVERDRIVEN_ROW].number = 5),
     misreading("the last overdriven row is named", |order| {
-        order[OVERDRIVEN_ROW].fault = |asked| asked.table.chunks_exact(ROW_BYTES).rposition(is_overdriven);
+        order[OVERDRIVEN_ROW].fault = |asked| asked.table.chunks_exact(ROW_BYTES).rposition(overdriven);
     }),
     misreading("an overdriven row is named as row 0", |order| {
         order[OVERDRIVEN_ROW].fault = |asked| right(OVERDRIVEN_ROW, asked).map(|_| 0);
@@ -178,17 +178,13 @@ fn is_of(kind: Kind, row: &[u8]) -> bool {
     row[12] == kind.code()
 }
 
-fn is_overdriven(row: &[u8]) -> bool {
-    is_of(Kind::Comparator, row) && row[15] == 1 && row[16] > 15
-}
-
 const LEVER: u8 = Kind::Lever.code();
 const BUTTON: u8 = Kind::Button.code();
 const PLATE: u8 = Kind::PressurePlate.code();
 
 /// The first row that is overdriven, or is of such a kind and has such a level.
 fn overdriven_or_of<const KIND: u8>(asked: &Asked) -> Option<usize> {
-    row_with(asked, |row| is_overdriven(row) || row[12] == KIND && row[16] > 15)
+    row_with(asked, |row| overdriven(row) || row[12] == KIND && row[16] > 15)
 }
 
 /// The first comparator with a given level above this one.

@@ -206,12 +206,8 @@ fn damage_state(input: &mut Input, row: usize) {
 }
 
 fn overdrive(input: &mut Input, level: u8) {
-    match input {
-        Input::Fresh { .. } => {}
-        Input::Settle { devices, .. } => set(devices, COMPARATOR, level),
-        Input::Tick { state, .. } | Input::Switch { state, .. } => {
-            set(state, STATE_BYTES * COMPARATOR, level);
-        }
+    if let Some((bytes, width)) = input.devices() {
+        set(bytes, width * COMPARATOR, level);
     }
 }
 

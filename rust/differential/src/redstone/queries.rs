@@ -176,11 +176,7 @@ fn damaged_sometimes(random: &mut Random, rows: &[Row], mut call: Call) -> Call 
 
 /// A level about the last and above it, on up to three comparators, if there are any.
 fn overdrive(random: &mut Random, rows: &[Row], input: &mut Input) {
-    let (bytes, width) = match input {
-        Input::Fresh { .. } => return,
-        Input::Settle { devices, .. } => (devices, 1),
-        Input::Tick { state, .. } | Input::Switch { state, .. } => (state, STATE_BYTES),
-    };
+    let Some((bytes, width)) = input.devices() else { return };
     let mut comparators: Vec<_> =
         rows.iter().enumerate().filter(|(_, row)| row.kind() == Kind::Comparator).collect();
     let most = random.pick(&[1, 1, 2, 3]);
