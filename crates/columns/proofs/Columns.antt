@@ -8,8 +8,8 @@ use native.Mathlib.Nat.{zero-add, not-suc-le-zero, le-of-suc-le-suc}
 use native.Mathlib.Numerals.{add-one}
 use native.Mathlib.Omega.{arith}
 use lib.Dec.{eqb}
-use lib.ListN.{length, getD, drop, set, length-set}
-use lib.Seq.{ext-getD, getD-set-same, getD-set-other, drop-cons, drop-length}
+use lib.ListN.{length, getD, take, drop, set, replicate, length-set, length-replicate}
+use lib.Seq.{length-take-le, ext-getD, getD-set-same, getD-set-other, drop-cons, drop-length}
 use borrow.Author.Count.{below-more}
 use borrow.Author.Tests.{eqb-true, eq-eqb}
 use Rattle.columns.specs.Column.{Column, row, tabulateFrom, tabulate, same}
@@ -103,3 +103,9 @@ same-over x y i h g =
     let p : drop i x ≡ [] = rw h (drop-length x) in
     let q : drop i y ≡ [] = rw g (drop-length y) in
     rw (p, q)
+
+-- ---- the front of an array of zeros
+
+-- it is as long as was asked
+pub length-zeros : (n m : ℕ) → n ≤ m → length (take {A = ℕ} n (replicate m 0)) ≡ n
+length-zeros n m h = length-take-le n (replicate m 0) (rw (length-replicate {A = ℕ} m 0) h)

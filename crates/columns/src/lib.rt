@@ -1,7 +1,7 @@
-// What every crate above shares: a byte of a slice, whether two slices are the same, the larger of two levels, and the answer of a search.
+// What every crate above shares: a byte of a slice, whether two slices are the same, a copy of one, the larger of two levels, and the answer of a search.
 ghost use mathlib.Core.Path.{_≡_};
 ghost use Prim.Native.Nat.{max};
-ghost use lib.ListN.{getD};
+ghost use lib.ListN.{length, getD};
 ghost use Rattle.columns.specs.Column.{same};
 
 // The answer of a search: an index, or nothing.
@@ -41,4 +41,14 @@ pub fn same(a: &[u8], b: &[u8]) -> bool
         i += 1;
     }
     true
+}
+
+// Copies a slice to one that is as long.
+pub fn copy(from: &[u8], to: &mut [u8])
+    requires { ⌜ length (now from) ≡ length (now to) ⌝ }
+    ensures { λ _. ⌜ now (to .exit) ≡ now (from .entry) ⌝ }
+{
+    for i in 0..from.len() {
+        to[i] = from[i];
+    }
 }

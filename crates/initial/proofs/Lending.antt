@@ -4,8 +4,8 @@ use mathlib.Core.Path.{_≡_, ap, _∙_}
 use mathlib.Core.List.{_++_}
 use Prim.Native.Nat.{ℕ, _*_, _≤_}
 use native.Mathlib.Omega.{arith}
-use lib.ListN.{length, take, drop, replicate, length-append, length-drop, length-replicate, take-append-drop}
-use lib.Seq.{length-take-le, take-at}
+use lib.ListN.{length, take, drop, length-append, length-drop, length-replicate, take-append-drop}
+use lib.Seq.{take-at}
 use borrow.Author.Tests.{eq-eqb}
 use Rattle.columns.specs.Column.{Bytes, Column}
 use Rattle.world.specs.Rows.{rows}
@@ -15,10 +15,6 @@ use Rattle.refusals.specs.Check.{checkInput, written}
 use Rattle.refusals.proofs.Passed.{or-accepted}
 use Rattle.updates.specs.Calls.{checkFresh}
 use Rattle.initial.specs.SettlesFresh.{zeros, columnOf}
-
--- a part of an array of zeros is as long as was asked
-pub lent : (n m : ℕ) → n ≤ m → length {A = ℕ} (take n (replicate m 0)) ≡ n
-lent n m h = length-take-le n (replicate m 0) (rw length-replicate h)
 
 -- once the part has come back, the array is the column
 pub given-back : (n : ℕ) (c : Checked) (numbers last : Column) → length last ≡ n → last ≡ written c (take n zeros) numbers → last ++ drop n zeros ≡ columnOf c numbers

@@ -10,9 +10,10 @@ use lib.Dec.{eqb, leb}
 use lib.IntN.{ℤ, pos, negsuc}
 use lib.Signed.{leZ, mag}
 use borrow.Author.Tests.{leb-true, not-true, not-false}
-use Rattle.columns.specs.Column.{Bytes}
+use Rattle.columns.specs.Column.{Bytes, part}
 use Rattle.columns.specs.First.{allBelow}
 use Rattle.columns.proofs.First.{all-at}
+use Rattle.columns.proofs.Parts.{part-at}
 use Rattle.columns.proofs.Truth.{and-true}
 use Rattle.places.specs.declared.Pos.{Pos}
 use Rattle.places.proofs.Steps.{InRange}
@@ -163,6 +164,17 @@ module _ (t u : Bytes) (i j : ℕ) where
 
 inside : (f : Field) → first f + width f ≤ 32
 inside f = leb-true (first f + width f) 32 (every-at (λ f. leb (first f + width f) 32) refl f)
+
+-- ---- a row by itself
+
+module _ (t : Bytes) (i : ℕ) where
+  -- it has the bytes that it has in the table
+  pub part-byte : (b : ℕ) → b < 32 → byteOf (part 32 t i) 0 b ≡ byteOf t i b
+  part-byte b l = rw (zero-add b) (part-at 32 t i b l)
+
+  -- and stands where it stands there
+  pub part-place : posOf (part 32 t i) 0 ≡ posOf t i
+  part-place = same-place t (part 32 t i) i 0 (λ k l. part-byte (0 + k) (omega arith))
 
 -- ---- a row that agrees with a good one outside the bytes that `changed` names
 

@@ -54,7 +54,8 @@ fn in_range(c: i32) -> bool
     (-1000000 <= c) & (c <= 1000000)
 }
 
-fn good_place(q: Pos) -> bool
+// Whether every coordinate of a position is in range.
+pub fn good_place(q: Pos) -> bool
     ensures { λ r. ⌜ r ≡ goodPlace q ⌝ }
 {
     in_range(q.x) & in_range(q.y) & in_range(q.z)

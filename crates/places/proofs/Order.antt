@@ -112,6 +112,13 @@ before-irrefl p h = go (before-cases p p h)
     go (by-y _ g) = less-irrefl g
     go (by-z _ _ g) = less-irrefl g
 
+-- positions of which one comes before the other are two
+pub before-differs : (p q : Pos) → before p q ≡ true → samePos p q ≡ false
+before-differs p q h = refuted (samePos p q) (λ e. before-irrefl q (rw (samePos-true p q e) at h))
+
+pub after-differs : (p q : Pos) → before q p ≡ true → samePos p q ≡ false
+after-differs p q h = refuted (samePos p q) (λ e. before-irrefl q (rw (samePos-true p q e) at h))
+
 pub before-trans : (p q r : Pos) → before p q ≡ true → before q r ≡ true → before p r ≡ true
 before-trans p q r g h = cases-before p r (go (before-cases p q g) (before-cases q r h))
   where

@@ -41,9 +41,13 @@ mag-neg (pos zero) = omega arith
 mag-neg (pos (suc n)) = omega arith
 mag-neg (negsuc n) = omega arith
 
-satAdd-exact : (a d : ℤ) → mag a ≤ 2000000 → mag d ≤ 2 → satAdd a d ≡ a +ℤ d
+-- a sum within 32 bits does not stop
+pub sum-exact : (a d : ℤ) → mag (a +ℤ d) ≤ 2147483647 → satAdd a d ≡ a +ℤ d
 unfolding satAdd
-satAdd-exact a d g h = clamp-exact (a +ℤ d) (omega (arith, mag-sum a d))
+sum-exact a d h = clamp-exact (a +ℤ d) h
+
+satAdd-exact : (a d : ℤ) → mag a ≤ 2000000 → mag d ≤ 2 → satAdd a d ≡ a +ℤ d
+satAdd-exact a d g h = sum-exact a d (omega (arith, mag-sum a d))
 
 satAdd-none : (a : ℤ) → mag a ≤ 2000000 → satAdd a zeroZ ≡ a
 satAdd-none a h = satAdd-exact a zeroZ h (omega arith) ∙ +ℤ-idr a

@@ -56,6 +56,9 @@ accepted-rows kinds t h =
 pub accepted-table : (kinds : ℕ) (t : Bytes) → checkTable kinds t ≡ Accepted → Table t
 accepted-table kinds t h = accepted-rows kinds t h .0
 
+pub accepted-of-kinds : (kinds : ℕ) (t : Bytes) → checkTable kinds t ≡ Accepted → OfKinds kinds t
+accepted-of-kinds kinds t h = accepted-rows kinds t h .1
+
 -- and a table that is so is accepted
 pub table-accepted : (kinds : ℕ) (t : Bytes) → Table t → OfKinds kinds t → checkTable kinds t ≡ Accepted
 unfolding checkTable checkRows
@@ -73,7 +76,7 @@ table-accepted kinds t a k =
 -- of a call with the profile
 pub accepted-kinds : (p t : Bytes) → checkInput p t ≡ Accepted → OfKinds (length p) t
 unfolding checkInput
-accepted-kinds p t h = accepted-rows (length p) t (passed-unless 1 (goodProfile p) _ h .1) .1
+accepted-kinds p t h = accepted-of-kinds (length p) t (passed-unless 1 (goodProfile p) _ h .1)
 
 pub accepted-input : (p t : Bytes) → checkInput p t ≡ Accepted → (goodProfile p ≡ true) × Table t
 unfolding checkInput

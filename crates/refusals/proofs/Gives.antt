@@ -21,7 +21,7 @@ use Rattle.refusals.specs.declared.Checked.{Checked}
 use Rattle.refusals.specs.declared.Checked.the-variants.{Accepted, Refused}
 use Rattle.layout.specs.Good.{goodProfile}
 use Rattle.refusals.specs.Check.{refuseUnless, refuseAt, orElse, also, isBad, isMisplaced, isOverdriven, isOverdrivenDevice, checkRows, checkTable, checkInput, checkValues}
-use Rattle.refusals.specs.Answers.{Gives, ofInput}
+use Rattle.refusals.specs.Answers.{Gives, ofTable, ofInput}
 use Rattle.refusals.proofs.Passed.{never}
 
 -- ---- test by test
@@ -76,18 +76,21 @@ wider-gives {ns} {ms} w g = record { number = λ n i e. within-one ns ms w n (g 
 pub not-given : {ns : List ℕ} {c : Checked} → Gives ns c → (n i : ℕ) → oneOf ns n ≡ false → ¬ (c ≡ Refused n i)
 not-given g n i h e = true≢false (sym (g .number n i e) ∙ h)
 
--- ---- the numbers of a profile and a table
+-- ---- the numbers of a table, and of a profile and a table
 
-pub input-gives : (p t : Bytes) → Gives ofInput (checkInput p t)
-unfolding checkInput checkTable checkRows
-input-gives p t =
-    unless-gives 1 refl (goodProfile p) _ λ _.
+pub table-gives : (kinds : ℕ) (t : Bytes) → Gives ofTable (checkTable kinds t)
+unfolding checkTable checkRows
+table-gives kinds t =
     unless-gives 2 refl (eqb (length t % 32) 0) _ λ _.
     unless-gives 3 refl (leb (rows t) 1024) _ λ few.
     let rows-few : rows t ≤ 1024 = leb-true _ _ few in
-    first-gives 4 refl (isBad (length p) t) (rows t) 0 _ (omega arith)
+    first-gives 4 refl (isBad kinds t) (rows t) 0 _ (omega arith)
     (first-gives 5 refl (isMisplaced t) (rows t - 1) 1 _ (omega arith)
     (first-gives 10 refl (isOverdriven t) (rows t) 0 _ (omega arith) accepted-gives))
+
+pub input-gives : (p t : Bytes) → Gives ofInput (checkInput p t)
+unfolding checkInput
+input-gives p t = unless-gives 1 refl (goodProfile p) _ (λ _. wider-gives refl (table-gives (length p) t))
 
 -- those of a device column or a state, of n rows
 pub values-give : (sized : Bool) (isBadValue : ℕ → Bool) (device : ℕ → ℕ) (n : ℕ) → n ≤ 1024

@@ -20,14 +20,9 @@ use Rattle.layout.specs.Good.{goodProfile}
 use Rattle.refusals.specs.declared.Checked.{Checked}
 use Rattle.refusals.specs.declared.Checked.the-variants.{Accepted, Refused}
 use Rattle.refusals.specs.Check.{refuseUnless, refuseAt, orElse, isBad, isMisplaced, isOverdriven, isOverdrivenDevice, checkOverdriven, checkRows, checkTable, checkInput, checkValues}
-use Rattle.refusals.proofs.Passed.{never, rows-pass, rows-else, or-accepted}
+use Rattle.refusals.proofs.Passed.{never, rows-pass, unless-else, rows-else, or-accepted}
 
 -- ---- tests, and those after them
-
--- the tests in a row are the first of them, and then the others
-unless-else : (n : ℕ) (b : Bool) (c next : Checked) → refuseUnless n b (orElse c next) ≡ orElse (refuseUnless n b c) next
-unless-else n true c next = refl
-unless-else n false c next = refl
 
 -- a test of each of n rows gives the first at fault: "row as for 4"
 first-refused : (m : ℕ) (f : ℕ → Bool) (n i : ℕ) → IsFirst f 0 n i → refuseAt m 0 (firstFrom f n 0) Accepted ≡ Refused m i

@@ -72,6 +72,16 @@ module _ (sized : Bool) (f : ℕ → Bool) (device : ℕ → ℕ) (k : ℕ) wher
 
 -- ---- tests in a row
 
+-- the first refusal of three
+pub or-assoc : (a b c : Checked) → orElse (orElse a b) c ≡ orElse a (orElse b c)
+or-assoc Accepted b c = refl
+or-assoc (Refused m i) b c = refl
+
+-- a test, and those that come next
+pub unless-else : (n : ℕ) (b : Bool) (c next : Checked) → refuseUnless n b (orElse c next) ≡ orElse (refuseUnless n b c) next
+unless-else n true c next = refl
+unless-else n false c next = refl
+
 -- a test of rows, and those that come next
 pub rows-else : (n d : ℕ) (f : Found) (c next : Checked) → refuseAt n d f (orElse c next) ≡ orElse (refuseAt n d f c) next
 rows-else n d (At i) c next = refl
@@ -83,8 +93,7 @@ at-else n d f next = sym (rows-else n d f Accepted next)
 
 -- one more test, after the first refusal of two, is one more after the second
 pub also-after : (a b : Checked) (n : ℕ) (passed : Bool) → also (orElse a b) n passed ≡ orElse a (also b n passed)
-also-after Accepted b n passed = refl
-also-after (Refused m i) b n passed = refl
+also-after a b n passed = or-assoc a b _
 
 -- nothing comes after
 pub or-accepted : (c : Checked) → orElse c Accepted ≡ c

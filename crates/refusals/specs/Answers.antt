@@ -16,9 +16,12 @@ pub record Gives (numbers : List ℕ) (c : Checked) : Type 0 where
   pub number : (n i : ℕ) → c ≡ Refused n i → oneOf numbers n ≡ true
   pub row : (n i : ℕ) → c ≡ Refused n i → i < 65536
 
--- of the refusal table and, 10, of document 02, Change 5: those that fall on a profile and a table
+-- of the refusal table and, 10, of document 02, Change 5: those that fall on a table, and on a profile and a table
+abbrev pub ofTable : List ℕ
+ofTable = 2 ∷ 3 ∷ 4 ∷ 5 ∷ 10 ∷ []
+
 abbrev pub ofInput : List ℕ
-ofInput = 1 ∷ 2 ∷ 3 ∷ 4 ∷ 5 ∷ 10 ∷ []
+ofInput = 1 ∷ ofTable
 
 -- ---- what an answer says
 

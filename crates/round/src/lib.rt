@@ -133,12 +133,3 @@ pub fn answers(
 {
     same(signal, next_signal) & same(weak, next_weak) & ((0 < rounds) | empty)
 }
-
-pub fn copy(from: &[u8], to: &mut [u8])
-    requires { ⌜ length (now from) ≡ length (now to) ⌝ }
-    ensures { λ _. ⌜ now (to .exit) ≡ now (from .entry) ⌝ }
-{
-    for i in 0..from.len() {
-        to[i] = from[i];
-    }
-}

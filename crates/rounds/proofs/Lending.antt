@@ -4,12 +4,12 @@ use mathlib.Core.Path.{_≡_, _∙_}
 use mathlib.Core.Bool.{true}
 use Prim.Native.Nat.{ℕ, _≤_}
 use native.Mathlib.Omega.{arith}
-use lib.ListN.{length, take, replicate, length-replicate, getD-replicate}
-use lib.Seq.{length-take-le, getD-take}
+use lib.ListN.{length, take, replicate, getD-replicate}
+use lib.Seq.{getD-take}
 use lib.Dec.{eqb}
 use borrow.Author.Tests.{eqb-true}
 use Rattle.columns.specs.Column.{Bytes, Column}
-use Rattle.columns.proofs.Columns.{is-tabulate}
+use Rattle.columns.proofs.Columns.{is-tabulate, length-zeros}
 use Rattle.columns.proofs.Truth.{and-true}
 use Rattle.network.specs.Network.{emptyMap}
 use Rattle.world.specs.Rows.{rows}
@@ -24,10 +24,6 @@ outputs t signal weak strong h =
     let (s, others) = and-true (eqb (length signal) (rows t)) _ h in
     let (w, g) = and-true (eqb (length weak) (rows t)) _ others in
     record { signal-rows = eqb-true _ _ s; weak-rows = eqb-true _ _ w; strong-rows = eqb-true _ _ g }
-
--- as long as it was taken
-pub length-zeros : (n m : ℕ) → n ≤ m → length (take {A = ℕ} n (replicate m 0)) ≡ n
-length-zeros n m h = length-take-le n (replicate m 0) (rw (length-replicate {A = ℕ} m 0) h)
 
 -- n entries, one a row of an accepted table
 module _ {t : Bytes} (accepted : Table t) (n : ℕ) (is : n ≡ rows t) where

@@ -1,8 +1,8 @@
 // The loop of rounds over the prepared columns.
 use crate::Outcome;
+use columns::copy;
 use levels::signal::Rounds;
 use round::answers;
-use round::copy;
 use round::first_signals;
 use round::next_signals;
 use round::next_weaks;

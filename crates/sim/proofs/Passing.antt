@@ -8,6 +8,7 @@ use lib.Dec.{eqb}
 use borrow.Author.Tests.{eqb-true}
 use Rattle.columns.specs.Column.{Bytes, Column}
 use Rattle.columns.proofs.Truth.{and-true}
+use Rattle.columns.proofs.Columns.{length-zeros}
 use Rattle.places.specs.declared.Pos.{Pos}
 use Rattle.world.specs.Rows.{rows}
 use Rattle.refusals.specs.declared.Checked.the-variants.{Accepted}
@@ -16,7 +17,7 @@ use Rattle.refusals.proofs.Passed.{passed-unless, passed-both}
 use Rattle.refusals.proofs.Accepted.{accepted-input}
 use Rattle.electrical.specs.Answer.{roundsOf, goodColumns}
 use Rattle.rounds.specs.Prepared.{Outputs}
-use Rattle.rounds.proofs.Lending.{outputs, length-zeros, fits}
+use Rattle.rounds.proofs.Lending.{outputs, fits}
 use Rattle.wire.proofs.Alike.{same-rows}
 use Rattle.updates.specs.State.{devicesOf, IsValidState, checkState}
 use Rattle.running.specs.Running.{ColumnLengths, Ready, HoldsSettled}

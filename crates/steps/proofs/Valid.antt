@@ -14,6 +14,7 @@ use borrow.Author.Tests.{eq-eqb, ne-eqb, leb-true, le-leb, ltb-true, lt-ltb}
 use Rattle.columns.specs.Column.{Bytes, Column, row, tabulateFrom}
 use Rattle.columns.proofs.Columns.{is-tabulate}
 use Rattle.columns.proofs.Truth.{and-true}
+use Rattle.words.proofs.FourBytes.{word-again}
 use Rattle.blocks.specs.Kind.{RedstoneTorch, Repeater, Comparator, RedstoneLamp, CopperBulb}
 use Rattle.world.specs.Rows.{kindOf}
 use Rattle.emitted.specs.Emitted.{goodDevice}
@@ -117,10 +118,6 @@ light-good t weak strong i r h p =
 
 -- ---- devices
 
--- the four bytes of a word make it up again
-word-again : (n : ℕ) → n < 2147483648 → n % 256 + n / 256 % 256 * 256 + n / 65536 % 256 * 65536 + n / 16777216 % 256 * 16777216 ≡ n
-word-again n h = let top : n / 16777216 % 256 ≡ n / 16777216 = omega arith in rw top (omega arith)
-
 candidate-step : (c : ℕ) (b : Bool) → c ≤ 1 → (leb (max c (number b)) 1 && (eqb (max c (number b)) 1 || not b)) ≡ true
 candidate-step zero true h = refl
 candidate-step zero false h = refl
@@ -166,7 +163,7 @@ module _ (p t : Bytes) (d : Column) (s : Numbers) (i : ℕ) where
         device = rw kind (number-small (not (torchSupportIsPowered p t (s .weak) (s .strong) i)));
         queue = rw kind (rw kind at (v .queue));
         light = rw kind (rw kind at (v .light));
-        torch = rw (kind, word-again w small) (torch-step w k small (leb-true _ _ low));
+        torch = rw (kind, word-again w (omega (arith, small))) (torch-step w k small (leb-true _ _ low));
         had-power = rw kind (rw kind at (v .had-power));
         rest = v .rest;
       }

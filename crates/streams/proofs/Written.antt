@@ -8,9 +8,9 @@ use lib.ListN.{length, take, drop, length-append}
 use lib.Seq.{take-at, drop-at, drop-drop}
 use Rattle.columns.specs.Column.{Bytes}
 use Rattle.columns.proofs.Members.{All}
-use Rattle.words.specs.Words.{word}
+use Rattle.words.specs.Words.{word, fourBytes}
 use Rattle.streams.specs.declared.Ending.the-variants.{Whole}
-use Rattle.streams.specs.Stream.{tableBytes, firstTable, laterTables, led, readWithin, fourBytes, asStream, IsWritable}
+use Rattle.streams.specs.Stream.{tableBytes, firstTable, laterTables, led, readWithin, asStream, IsWritable}
 use Rattle.streams.proofs.Streams.{IsTable, read-table, read-nothing, joined, read-append}
 
 -- the table at the front, and what comes after it

@@ -3,11 +3,11 @@
 use mathlib.Core.Bool.{cond}
 use mathlib.Core.Path.{_≡_}
 use mathlib.Core.List.{List, [], _∷_, _++_}
-use Prim.Native.Nat.{ℕ, zero, suc, _+_, _*_, _/_, _%_, _≤_}
+use Prim.Native.Nat.{ℕ, zero, suc, _+_, _*_, _/_, _≤_}
 use lib.ListN.{length, take, drop}
 use lib.Dec.{eqb, ltb}
 use Rattle.columns.specs.Column.{Bytes}
-use Rattle.words.specs.Words.{word}
+use Rattle.words.specs.Words.{word, fourBytes}
 use Rattle.streams.specs.declared.Ending.{Ending}
 use Rattle.streams.specs.declared.Ending.the-variants.{Whole, Cut, Count}
 use Rattle.streams.specs.declared.Front.{Front}
@@ -80,10 +80,6 @@ unfoldable pub streamOf : Bytes → Stream
 streamOf s = readWithin mostTables s
 
 -- ---- a stream that is written
-
--- a number below 4,294,967,296 in four bytes, low byte first
-abbrev pub fourBytes : ℕ → Bytes
-fourBytes n = n % 256 ∷ n / 256 % 256 ∷ n / 65536 % 256 ∷ n / 16777216 % 256 ∷ []
 
 -- tables, each led by its row count
 unfoldable pub asStream : List Bytes → Bytes

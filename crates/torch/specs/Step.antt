@@ -1,11 +1,13 @@
 -- What a tick does to the sixteen bytes of a torch: of row i, with the old settled power, since it reads no signal.
 -- Assumes nothing.
 use mathlib.Core.Bool.{Bool, false, not, _&&_}
-use Prim.Native.Nat.{ℕ, _+_, _*_, _/_, _%_, _^_, max}
+use Prim.Native.Nat.{ℕ, _+_, _*_, _%_, _^_, max}
 use lib.ListN.{set}
+use lib.Seq.{sets}
 use lib.Dec.{eqb}
 use Rattle.columns.specs.Column.{Bytes, Column}
 use Rattle.columns.specs.First.{onFound}
+use Rattle.words.specs.Words.{fourBytes}
 use Rattle.world.specs.Rows.{supportOf}
 use Rattle.world.specs.Find.{findAt}
 use Rattle.traits.specs.Traits.{traits, conducts}
@@ -30,7 +32,7 @@ nextCandidate old toggles = max old (number (isCandidate toggles))
 
 -- a word at bytes 4 to 7, "low byte first"
 abbrev pub setToggles : Bytes → ℕ → Bytes
-setToggles r w = set (set (set (set r 4 (w % 256)) 5 (w / 256 % 256)) 6 (w / 65536 % 256)) 7 (w / 16777216 % 256)
+setToggles r w = sets r 4 (fourBytes w)
 
 unfoldable pub torchRow : Bytes → Bytes → Column → Column → ℕ → Bytes → Bytes
 torchRow p t weak strong i r =

@@ -5,10 +5,11 @@ use levels::has_power;
 use levels::number;
 use states::bits::is_candidate;
 use states::row::toggles_of;
+use words::write_word;
 use world::find::find_at;
 ghost use mathlib.Core.Path.{_≡_};
 ghost use lib.ListN.{length};
-ghost use Rattle.torch.specs.Step.{torchSupportIsPowered, nextToggles, nextCandidate, setToggles, torchRow};
+ghost use Rattle.torch.specs.Step.{torchSupportIsPowered, nextToggles, nextCandidate, torchRow};
 
 fn torch_support_is_powered(
     profile: &[u8],
@@ -40,17 +41,6 @@ fn next_candidate(old: u8, toggles: u32) -> u8
     larger(old, number(is_candidate(toggles)))
 }
 
-// Bytes 4 to 7, low byte first.
-fn set_toggles(sixteen: &mut [u8], toggles: u32)
-    requires { ⌜ length (now sixteen) ≡ 16 ⌝ }
-    ensures { λ _. ⌜ now (sixteen .exit) ≡ setToggles (now (sixteen .entry)) toggles ⌝ }
-{
-    sixteen[4] = (toggles % 256) as u8;
-    sixteen[5] = (toggles / 256 % 256) as u8;
-    sixteen[6] = (toggles / 65536 % 256) as u8;
-    sixteen[7] = (toggles / 16777216 % 256) as u8;
-}
-
 pub fn torch_step(
     profile: &[u8],
     table: &[u8],
@@ -66,6 +56,6 @@ pub fn torch_step(
     let toggles = next_toggles(toggles_of(sixteen), lit != sixteen[0]);
     let candidate = next_candidate(sixteen[8], toggles);
     sixteen[0] = lit;
-    set_toggles(sixteen, toggles);
+    write_word(sixteen, 4, toggles);
     sixteen[8] = candidate;
 }

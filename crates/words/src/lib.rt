@@ -1,9 +1,11 @@
-// Parts of a slice, and the number at its front. Each function is total: a byte past the end is 0, and a part past the end is cut off there.
+// Parts of a slice, the number at its front, and a number written to it. Each function that reads is total: a byte past the end is 0, and a part past
+// the end is cut off there.
 use columns::byte_at;
 ghost use mathlib.Core.Path.{_≡_};
-ghost use Prim.Native.Nat.{_<_};
-ghost use lib.ListN.{take, drop};
-ghost use Rattle.words.specs.Words.{half, word, long};
+ghost use Prim.Native.Nat.{_+_, _≤_, _<_};
+ghost use lib.ListN.{length, take, drop};
+ghost use lib.Seq.{sets};
+ghost use Rattle.words.specs.Words.{half, word, long, fourBytes};
 
 // What stands from an index on.
 pub fn from(s: &[u8], at: usize) -> &[u8]
@@ -59,4 +61,15 @@ pub fn long(s: &[u8]) -> u64
     ensures { λ r. ⌜ r ≡ long (now (s .entry)) ⌝ }
 {
     widest(word(s)) + widest(word(from(s, 4))) * 4294967296
+}
+
+// Writes a number to the four bytes from an index on.
+pub fn write_word(bytes: &mut [u8], at: usize, n: u32)
+    requires { ⌜ at + 4 ≤ length (now bytes) ⌝ }
+    ensures { λ _. ⌜ now (bytes .exit) ≡ sets (now (bytes .entry)) at (fourBytes n) ⌝ }
+{
+    bytes[at] = (n % 256) as u8;
+    bytes[at + 1] = (n / 256 % 256) as u8;
+    bytes[at + 2] = (n / 65536 % 256) as u8;
+    bytes[at + 3] = (n / 16777216 % 256) as u8;
 }

@@ -3,9 +3,10 @@ use borrow.Author.Needs.{needs}
 use mathlib.Core.Path.{ap, sym, _∙_}
 use Prim.Native.Nat.{_*_, _≤_}
 use native.Mathlib.Omega.{arith}
+use Rattle.columns.proofs.Columns.{length-zeros}
 use Rattle.refusals.specs.Accepted.{Table}
 use Rattle.rounds.specs.Prepared.{Outputs}
-use Rattle.rounds.proofs.Lending.{length-zeros, fits}
+use Rattle.rounds.proofs.Lending.{fits}
 use Rattle.solver.proofs.Answering.{passed-call}
 use Rattle.solver.proofs.solve.Statement.{statement}
 use Rattle.solver.proofs.solve.Tie as tie

@@ -30,14 +30,14 @@ next-candidate-requires c κs = search needs
 slice-write-sixteen : tie.Need-slice-write-sixteen
 slice-write-sixteen c = search needs
 
-set-toggles-requires : tie.Need-set-toggles-requires
-set-toggles-requires c κs = search needs
+write-word-requires : tie.Need-write-word-requires
+write-word-requires c κs = simp length-set (omega arith)
 
 slice-write-sixteen-2 : tie.Need-slice-write-sixteen-2
-slice-write-sixteen-2 c = omega (arith, simp length-set at (c .before .before .set-toggles .kept .0))
+slice-write-sixteen-2 c = omega (arith, simp length-set at (c .before .before .write-word .kept .0))
 
 same-length : tie.Need-same-length
-same-length c = simp length-set (simp length-set at (c .before .before .set-toggles .kept .0))
+same-length c = simp length-set (simp length-set at (c .before .before .write-word .kept .0))
 
 returns : tie.Need-returns
 unfolding torchRow
@@ -55,7 +55,7 @@ torch-step-spec =
     slice-read-next-candidate
     next-candidate-requires
     slice-write-sixteen
-    set-toggles-requires
+    write-word-requires
     slice-write-sixteen-2
     same-length
     returns)

@@ -2,7 +2,8 @@
 use mathlib.Core.Path.{sym, _∙_}
 use Prim.Native.Nat.{_≤_}
 use lib.ListN.{length}
-use Rattle.rounds.proofs.Lending.{length-zeros, fits, zeros-emptyMap}
+use Rattle.columns.proofs.Columns.{length-zeros}
+use Rattle.rounds.proofs.Lending.{fits, zeros-emptyMap}
 use Rattle.rounds.proofs.settle.settle.Statement.{statement}
 use Rattle.rounds.proofs.settle.settle.Tie as tie
 

@@ -1,13 +1,13 @@
--- `round::copy` meets its contract. The loop's invariant: the first i bytes are copied. Assumes nothing.
+-- `columns::copy` meets its contract. The loop's invariant: the first i bytes are copied. Assumes nothing.
 use borrow.Author.Needs.{needs}
 use mathlib.Core.Path.{refl, sym, _∙_}
 use Prim.Native.Nat.{_-_}
 use native.Mathlib.Omega.{arith}
 use lib.ListN.{length}
 use Rattle.columns.specs.Column.{row}
 use Rattle.columns.proofs.Columns.{Filled, filled-none, filled-all, fills, is-tabulate}
-use Rattle.round.proofs.copy.Statement.{statement}
-use Rattle.round.proofs.copy.Tie as tie
+use Rattle.columns.proofs.copy.Statement.{statement}
+use Rattle.columns.proofs.copy.Tie as tie
 
 abbrev Inv-loop : tie.InvT-loop
 Inv-loop from to₀ i₀ i-end to i = Filled (row from) (length from) i to
