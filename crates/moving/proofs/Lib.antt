@@ -1,0 +1,4 @@
+pub mod Moved
+pub mod Offsets
+pub mod Order
+pub mod Words
