@@ -1,8 +1,10 @@
 // The map editor's calls. Each answers 65,536 times the number of the refusal that falls on it plus the row at fault, and then writes no byte;
 // else the rounds of its settling, 1 to 17, or what its own comment says. A profile has 13 bytes or, for tables with bulbs, 14.
+use places::Pos;
 ghost use lib.IntN.{ℤ};
 ghost use Rattle.places.specs.Places.{cell};
 ghost use Rattle.supports.specs.Supports.{Listed};
+ghost use Rattle.merge.specs.Merge.{Merges};
 ghost use Rattle.redraw.specs.Redraw.{Redraws};
 ghost use Rattle.electrical.specs.Answer.{Settles};
 ghost use Rattle.updates.specs.Calls.{Fresh, Ticks, Switches};
@@ -99,4 +101,20 @@ pub extern "C" fn redstone_supports(profile: &[u8], table: &[u8], rows: &mut [u1
     ensures { λ r. ⌜ Listed (now (profile .entry)) (now (table .entry)) (now (rows .entry)) (now (rows .exit)) r ⌝ }
 {
     supports::support_issues(profile, table, rows)
+}
+
+// The rows of the first table and those of the second, moved by the offset, at the front of the output, in order, each shared one once, the rest of
+// it untouched; answers how many rows there are. The output has 32,768 bytes. No profile is given, and rows of bulbs are good.
+#[no_mangle]
+pub extern "C" fn redstone_merge(
+    first: &[u8],
+    second: &[u8],
+    dx: i32,
+    dy: i32,
+    dz: i32,
+    out: &mut [u8],
+) -> u32
+    ensures { λ r. ⌜ Merges (now (first .entry)) (now (second .entry)) (cell dx dy dz) (now (out .entry)) (now (out .exit)) r ⌝ }
+{
+    merge::merge(first, second, Pos::new(dx, dy, dz), out)
 }
