@@ -17,6 +17,8 @@ use Rattle.refusals.specs.Answers.{decode}
 use Rattle.refusals.proofs.Tells.{told-refused}
 use Rattle.supports.specs.Supports.{supportIssues, Listed}
 use Rattle.supports.proofs.Answers.{listed-tells}
+use Rattle.merge.specs.Merge.{checkMerge, Merges}
+use Rattle.merge.proofs.Answers.{merge-tells}
 use Rattle.switching.specs.Switch.{switched}
 use Rattle.redraw.specs.Redraw.{Redraws}
 use Rattle.redraw.proofs.Answers.{redraw-tells}
@@ -205,3 +207,11 @@ redrawsExchanged = record { answer = refl; table = refl }
 
 redraw-refused : checkInput benchProfile exchanged ≡ Refused 5 1
 redraw-refused = told-refused (redraw-tells redrawsExchanged) (omega arith)
+
+-- the table merged with itself, to an output of no byte: number 7
+mergesFed : Merges fed fed (cell (pos 0) (pos 0) (pos 0)) [] [] 458752
+unfolding computing fed
+mergesFed = record { answer = refl; bytes = refl }
+
+merge-refused : checkMerge fed fed (cell (pos 0) (pos 0) (pos 0)) 0 ≡ Refused 7 0
+merge-refused = told-refused (merge-tells fed fed (cell (pos 0) (pos 0) (pos 0)) [] mergesFed) (omega arith)
