@@ -10,7 +10,7 @@
  *
  * Answer. Where the call is refused, 65536 times the refusal's number plus the row at fault, and no byte of any buffer
  * is written. Else the rounds in which the table settled, 1 to 17, and all of signal, weak and strong are written;
- * redstone_redraw and redstone_supports, which settle nothing, say below what they answer.
+ * redstone_redraw, redstone_supports and redstone_merge, which settle nothing, say below what they answer.
  *
  * Table. At most 1024 rows of 32 bytes, ordered by x, then y, then z, all positions different. Numbers have their low
  * byte first. y is up.
@@ -18,7 +18,7 @@
  *   0-3, 4-7, 8-11  x, y, z, signed, each from -1000000 to 1000000
  *   12              kind: 1 Solid, 2 Transparent, 3 RedstoneWire (dust), 4 RedstoneTorch, 5 Repeater, 6 Comparator,
  *                   7 Lever, 8 Button, 9 PressurePlate, 10 RedstoneLamp, 11 RedstoneBlock, 12 Piston, 13 CopperBulb
- *                   (with a profile of 14 bytes alone)
+ *                   (with a profile of 14 bytes alone, and in redstone_merge, which has none)
  *   13              facing: 0 missing, 1 North (0,0,-1), 2 East (1,0,0), 3 South (0,0,1), 4 West (-1,0,0), 5 Up, 6 Down
  *   14              powered: 0 missing, 1 false, 2 true
  *   15, 16          power level given 0/1, its value, at most 15 for a comparator
@@ -72,19 +72,24 @@
  * Refusals, tested in the order 1 to 5, 10 on the rows, 6, 10 on the device column or the state, 7, 8, 9, as far as the
  * call has the input. Each is tested over all rows before the next, in 6 the length before a value. The row is the first
  * at fault for 4, 5, 10 and a value in 6, and else 0. Every call gives 10 on the rows, settle on the device column, too,
- * and tick and switch on the state.
+ * and tick and switch on the state. redstone_merge tests the first table for 2 to 5 and 10, then the second, as it is
+ * given and with its own rows counted, and then 7, 11, 12 and 3, of both together. Where it gives 2 to 5 or 10, the fault
+ * is in the first table if the same call with second_length 0 gives it, too.
  *
  *   1  profile     not 13 bytes nor 14, Air not 0, or a byte above 31, the torch's above 63
  *   2  ragged      table length not a multiple of 32
- *   3  crowded     more than 1024 rows
+ *   3  crowded     more than 1024 rows, in a table or in what two are merged to
  *   4  bad row     a field outside the layout, or kind 13 with a profile of 13 bytes
  *   5  misplaced   a position not after the row before
  *   6  bad state   device column or state of wrong length or value, but for 10's
- *   7  column      an output column, or fresh's state, not one entry per row
+ *   7  column      an output column, or fresh's state, not one entry per row; merge's output not 32768 bytes
  *   8  unsettled   limit below the rounds needed (settle alone; 17 is always enough)
  *   9  clock end   tick plus ticks above 4294967295 (tick alone)
  *   10 overdriven  a comparator with a power level above 15 given in its row, or with a device byte above 15 in the
  *                  device column or the state
+ *   11 off ground  a part of the offset outside -2000000 to 2000000, or a moved coordinate outside -1000000 to 1000000
+ *                  (merge alone)
+ *   12 clash       a position in both tables whose 32 bytes, once moved, differ (merge alone)
  */
 #ifndef REDSTONE_H
 #define REDSTONE_H
@@ -107,6 +112,8 @@
 #define REDSTONE_MOST_LEVEL 15
 #define REDSTONE_MOST_ROUNDS 17
 #define REDSTONE_FARTHEST 1000000
+#define REDSTONE_FARTHEST_OFFSET 2000000
+#define REDSTONE_MERGE_BYTES 32768
 
 /* Byte 12 of a row. */
 #define REDSTONE_KIND_SOLID 1
@@ -214,6 +221,15 @@ uint32_t redstone_supports(
     const uint8_t *profile, size_t profile_length,
     const uint8_t *table, size_t table_length,
     uint16_t *rows, size_t rows_length);
+
+/* Writes the table that holds the rows of the first and those of the second, moved by dx, dy, dz, to the front of `out`,
+ * in the table's order; the rest of it is untouched. `out` has REDSTONE_MERGE_BYTES, whatever the tables have. A position
+ * that both have is written once. No profile is given, and rows of bulbs are good. Answers how many rows there are. */
+uint32_t redstone_merge(
+    const uint8_t *first, size_t first_length,
+    const uint8_t *second, size_t second_length,
+    int32_t dx, int32_t dy, int32_t dz,
+    uint8_t *out, size_t out_length);
 
 #ifdef __cplusplus
 }

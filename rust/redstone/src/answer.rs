@@ -26,14 +26,17 @@ impl Rounds {
 pub struct Refusal {
     /// The number of the refusal, from 1 on.
     pub number: u32,
-    /// The first row at fault. 0 where the refusal is not about a row, or where a state or device column is of a
-    /// wrong length.
+    /// The first row at fault, in the table that [`Fault::table`] names. 0 where the refusal is not about a row, where a
+    /// state or device column is of a wrong length, and for 11 and 12, whose rows the fault has.
     pub row: usize,
     /// What exactly is wrong.
     pub fault: Fault,
 }
 
 /// The refusals. A call tests for them in the order of their numbers, but for [`Overdriven`](Self::Overdriven).
+///
+/// [`merge`](crate::merge) tests the first table for 2 to 5 and 10, then the second one, and then 7, 11, 12 and, of both
+/// tables together, 3.
 #[derive(Clone, Copy, Debug, Eq, Hash, PartialEq)]
 #[non_exhaustive]
 pub enum RefusalKind {
@@ -41,16 +44,18 @@ pub enum RefusalKind {
     Profile,
     /// 2: the table's length is not a multiple of 32.
     Ragged,
-    /// 3: the table has more than 1,024 rows.
+    /// 3: the table, or what two tables are merged to, has more than 1,024 rows.
     Crowded,
     /// 4: a row has a field outside the layout, or is a bulb and the profile has 13 bytes, not the 14 that
-    /// [`BENCH_PROFILE_WITH_BULB`](crate::BENCH_PROFILE_WITH_BULB) has.
+    /// [`BENCH_PROFILE_WITH_BULB`](crate::BENCH_PROFILE_WITH_BULB) has. [`merge`](crate::merge), which has no profile,
+    /// takes bulbs.
     BadRow,
     /// 5: a row's position is not after that of the row before.
     Misplaced,
     /// 6: the device column or the state has a wrong length or value.
     BadState,
-    /// 7: an output column, or the state lent to [`fresh`](crate::fresh), has not one entry for each row.
+    /// 7: an output column, or the state lent to [`fresh`](crate::fresh), has not one entry for each row; or what is lent
+    /// to [`merge`](crate::merge) has not [`MERGE_BYTES`](crate::MERGE_BYTES).
     Column,
     /// 8: the limit is below the rounds needed.
     Unsettled,
@@ -59,12 +64,16 @@ pub enum RefusalKind {
     /// 10: a comparator's level is above 15, be it the power level of its row, which is tested just after 5, or its byte of
     /// the device column or the state, which is tested just after 6.
     Overdriven,
+    /// 11: the offset of a merge is out of range, or moves a row of the second table out of it.
+    OffGround,
+    /// 12: two tables that are merged have different rows at one position.
+    Clash,
     /// A number that this crate does not know.
     Unknown,
 }
 
 /// Each number, what it stands for, and its word.
-pub(crate) const REFUSALS: [(u32, RefusalKind, &str); 10] = [
+pub(crate) const REFUSALS: [(u32, RefusalKind, &str); 12] = [
     (1, RefusalKind::Profile, "profile"),
     (2, RefusalKind::Ragged, "ragged"),
     (3, RefusalKind::Crowded, "crowded"),
@@ -75,6 +84,8 @@ pub(crate) const REFUSALS: [(u32, RefusalKind, &str); 10] = [
     (8, RefusalKind::Unsettled, "unsettled"),
     (9, RefusalKind::ClockEnd, "clock end"),
     (10, RefusalKind::Overdriven, "overdriven"),
+    (11, RefusalKind::OffGround, "off ground"),
+    (12, RefusalKind::Clash, "clash"),
 ];
 
 impl RefusalKind {

@@ -87,4 +87,7 @@ calls! {
     );
     fn redstone_redraw(read profile: u8, write table: u8);
     fn redstone_supports(read profile: u8, read table: u8, write rows: u16);
+    fn redstone_merge(
+        read first: u8, read second: u8, pass dx: i32, pass dy: i32, pass dz: i32, write out: u8,
+    );
 }

@@ -2,10 +2,11 @@
 //! with which number, is the proved call's to say.
 
 use crate::device::{Device, check_device_level, read_device_byte};
+use crate::merge::{clashes, shared};
 use crate::table::rows_under;
 use crate::{
-    BadField, Buffer, Fault, Kind, MOST_ROWS, PROFILE_BYTES, PROFILE_BYTES_WITH_BULB, ROW_BYTES, Row,
-    STATE_BYTES, TORCH_CHARGES_ABOVE,
+    BadField, Buffer, FARTHEST, FARTHEST_OFFSET, Fault, Kind, MERGE_BYTES, MOST_ROWS, PROFILE_BYTES,
+    PROFILE_BYTES_WITH_BULB, ROW_BYTES, Row, STATE_BYTES, TORCH_CHARGES_ABOVE, WhichTable,
 };
 
 /// The sum of the values that the byte of every kind may have.
@@ -65,11 +66,33 @@ pub(crate) fn supports(profile: &[u8], table: &[u8], list: &[u16]) -> Result<(),
     check_lengths(&input(profile, table)?, &[(Buffer::Rows, list.len())])
 }
 
+/// What [`merge`](crate::merge) refuses, with room of so many bytes.
+pub(crate) fn merge(first: &[u8], second: &[u8], offset: [i32; 3], room: usize) -> Result<(), Fault> {
+    let rows =
+        |table, which| table_input(PROFILE_BYTES_WITH_BULB, table).map_err(|fault| fault.in_table(which));
+    let first_rows = rows(first, WhichTable::First)?;
+    let second_rows = rows(second, WhichTable::Second)?;
+    if room != MERGE_BYTES {
+        return Err(Fault::Column { buffer: Buffer::Merged, length: room, expected: MERGE_BYTES });
+    }
+    check_offset(offset)?;
+    check_ground(&second_rows, offset)?;
+    if let Some(clash) = clashes(first, second, offset).next() {
+        return Err(Fault::Clash(clash));
+    }
+    check_together(first_rows.len(), second_rows.len(), shared(first, second, offset).count())
+}
+
 /// 1 to 5, and 10 on the rows. The rows are those of the accepted table.
 fn input(profile: &[u8], table: &[u8]) -> Result<Vec<Row>, Fault> {
     check_profile(profile)?;
+    table_input(profile.len(), table)
+}
+
+/// 2 to 5, and 10 on the rows, under a profile of so many bytes.
+fn table_input(profile_bytes: usize, table: &[u8]) -> Result<Vec<Row>, Fault> {
     check_number(table)?;
-    let rows = rows_under(profile.len(), table)?;
+    let rows = rows_under(profile_bytes, table)?;
     check_order(&rows)?;
     check_levels(&rows)?;
     Ok(rows)
@@ -101,7 +124,9 @@ fn most_properties(kind: u8) -> u8 {
 /// 3, which falls on a table of whole rows alone.
 fn check_number(table: &[u8]) -> Result<(), Fault> {
     match table.as_chunks::<ROW_BYTES>() {
-        (rows, []) if rows.len() > MOST_ROWS => Err(Fault::Crowded { rows: rows.len() }),
+        (rows, []) if rows.len() > MOST_ROWS => {
+            Err(Fault::Crowded { table: WhichTable::Only, rows: rows.len() })
+        }
         _ => Ok(()),
     }
 }
@@ -110,7 +135,7 @@ fn check_order(rows: &[Row]) -> Result<(), Fault> {
     for (row, pair) in (1..).zip(rows.windows(2)) {
         let (before, position) = (pair[0].position(), pair[1].position());
         if position <= before {
-            return Err(Fault::Misplaced { row, position, before });
+            return Err(Fault::Misplaced { table: WhichTable::Only, row, position, before });
         }
     }
     Ok(())
@@ -119,8 +144,8 @@ fn check_order(rows: &[Row]) -> Result<(), Fault> {
 /// 10, of the rows.
 fn check_levels(rows: &[Row]) -> Result<(), Fault> {
     for (number, row) in rows.iter().enumerate() {
-        let position = row.position();
-        row.check_level().map_err(|field| Fault::OverdrivenRow { row: number, position, field })?;
+        let (table, position) = (WhichTable::Only, row.position());
+        row.check_level().map_err(|field| Fault::OverdrivenRow { table, row: number, position, field })?;
     }
     Ok(())
 }
@@ -181,4 +206,39 @@ fn check_clock(tick: u32, ticks: u32) -> Result<(), Fault> {
         Some(_) => Ok(()),
         None => Err(Fault::ClockEnd { tick, ticks }),
     }
+}
+
+const AXES: [char; 3] = ['x', 'y', 'z'];
+
+/// 11, of the offset.
+fn check_offset(offset: [i32; 3]) -> Result<(), Fault> {
+    for (axis, value) in AXES.into_iter().zip(offset) {
+        if !(-FARTHEST_OFFSET..=FARTHEST_OFFSET).contains(&value) {
+            return Err(Fault::FarOffset { axis, value });
+        }
+    }
+    Ok(())
+}
+
+/// 11, of the rows that an offset moves, which is in range as they are.
+fn check_ground(rows: &[Row], offset: [i32; 3]) -> Result<(), Fault> {
+    for (second, row) in rows.iter().enumerate() {
+        let position = row.position();
+        let moved = [0, 1, 2].map(|axis| position[axis] + offset[axis]);
+        if let Some(axis) = moved.iter().position(|coordinate| !(-FARTHEST..=FARTHEST).contains(coordinate)) {
+            let along = || rows.iter().map(|row| row.position()[axis]);
+            let least = -FARTHEST - along().fold(position[axis], i32::min);
+            let most = FARTHEST - along().fold(position[axis], i32::max);
+            return Err(Fault::OffGround { second, position, moved, axis: AXES[axis], least, most });
+        }
+    }
+    Ok(())
+}
+
+/// 3, of two tables that share so many rows.
+fn check_together(first: usize, second: usize, shared: usize) -> Result<(), Fault> {
+    if first + second - shared > MOST_ROWS {
+        return Err(Fault::CrowdedTogether { first, second, shared });
+    }
+    Ok(())
 }

@@ -4,7 +4,8 @@ use std::error::Error;
 use std::fmt::{self, Display, Formatter};
 
 use crate::{
-    BadField, Kind, MOST_ROWS, PROFILE_BYTES, PROFILE_BYTES_WITH_BULB, ROW_BYTES, Rounds, TORCH_CHARGES_ABOVE,
+    BadField, Clash, FARTHEST, FARTHEST_OFFSET, Kind, MOST_ROWS, PROFILE_BYTES, PROFILE_BYTES_WITH_BULB,
+    ROW_BYTES, Rounds, TORCH_CHARGES_ABOVE,
 };
 
 /// What exactly is wrong with an input. Its message says what would be right.
@@ -27,16 +28,31 @@ pub enum Fault {
     },
     /// 2: the table is not of whole rows.
     Ragged {
+        /// Which table.
+        table: WhichTable,
         /// The bytes of the table.
         length: usize,
     },
     /// 3: the table has too many rows.
     Crowded {
+        /// Which table.
+        table: WhichTable,
         /// How many it has.
         rows: usize,
     },
+    /// 3: what two tables are merged to has too many rows.
+    CrowdedTogether {
+        /// The rows of the first table.
+        first: usize,
+        /// The rows of the second table.
+        second: usize,
+        /// Those that both have, which count once.
+        shared: usize,
+    },
     /// 4: a row has a field outside the layout, or is a bulb under a profile of 13 bytes.
     BadRow {
+        /// Which table the row is of.
+        table: WhichTable,
         /// The row's number.
         row: usize,
         /// The position that its bytes hold.
@@ -46,6 +62,8 @@ pub enum Fault {
     },
     /// 5: a row's position is not after that of the row before.
     Misplaced {
+        /// Which table the row is of.
+        table: WhichTable,
         /// The row's number.
         row: usize,
         /// Its position.
@@ -98,6 +116,8 @@ pub enum Fault {
     },
     /// 10: the row of a comparator has a power level above 15.
     OverdrivenRow {
+        /// Which table the row is of.
+        table: WhichTable,
         /// The row's number.
         row: usize,
         /// Its position.
@@ -116,6 +136,30 @@ pub enum Fault {
         /// The level.
         field: BadField,
     },
+    /// 11: the offset is out of range on an axis.
+    FarOffset {
+        /// The first such axis: x, y or z.
+        axis: char,
+        /// The offset along it.
+        value: i32,
+    },
+    /// 11: a row of the second table is moved out of range.
+    OffGround {
+        /// The row's number in the second table.
+        second: usize,
+        /// Its position there.
+        position: [i32; 3],
+        /// Where it would come to.
+        moved: [i32; 3],
+        /// The first axis along which that is too far: x, y or z.
+        axis: char,
+        /// The smallest offset along it that keeps every row of the second table in range.
+        least: i32,
+        /// The largest such offset.
+        most: i32,
+    },
+    /// 12: the tables have different rows at a position.
+    Clash(Clash),
     /// The library refused what this crate finds no fault with.
     Unexplained {
         /// The number of the refusal.
@@ -125,7 +169,18 @@ pub enum Fault {
     },
 }
 
-/// A buffer that is lent to a call with entries for each row.
+/// Which of the tables that a call takes.
+#[derive(Clone, Copy, Debug, Eq, Hash, PartialEq)]
+pub enum WhichTable {
+    /// The one that it takes.
+    Only,
+    /// The first that [`merge`](crate::merge) takes.
+    First,
+    /// The second that it takes, as it is given: not moved.
+    Second,
+}
+
+/// A buffer that is lent to a call.
 #[derive(Clone, Copy, Debug, Eq, Hash, PartialEq)]
 #[non_exhaustive]
 pub enum Buffer {
@@ -141,6 +196,8 @@ pub enum Buffer {
     Strong,
     /// The column for the numbers of rows.
     Rows,
+    /// The room for what two tables are merged to.
+    Merged,
 }
 
 impl Fault {
@@ -150,7 +207,7 @@ impl Fault {
         match *self {
             Self::ProfileLength { .. } | Self::ProfileByte { .. } => 1,
             Self::Ragged { .. } => 2,
-            Self::Crowded { .. } => 3,
+            Self::Crowded { .. } | Self::CrowdedTogether { .. } => 3,
             Self::BadRow { .. } => 4,
             Self::Misplaced { .. } => 5,
             Self::StateLength { .. } | Self::BadState { .. } => 6,
@@ -158,11 +215,13 @@ impl Fault {
             Self::Unsettled { .. } => 8,
             Self::ClockEnd { .. } => 9,
             Self::OverdrivenRow { .. } | Self::OverdrivenState { .. } => 10,
+            Self::FarOffset { .. } | Self::OffGround { .. } => 11,
+            Self::Clash(_) => 12,
             Self::Unexplained { number, .. } => number,
         }
     }
 
-    /// The row at fault; 0 where no row is.
+    /// The row at fault, as the call answers it; 0 where no row is, and for 11 and 12.
     #[must_use]
     pub fn row(&self) -> usize {
         match *self {
@@ -173,6 +232,32 @@ impl Fault {
             | Self::OverdrivenState { row, .. }
             | Self::Unexplained { row, .. } => row,
             _ => 0,
+        }
+    }
+
+    /// The table at fault: of a refusal by [`merge`](crate::merge) the number and the row do not tell. `None` where it is no
+    /// single table.
+    #[must_use]
+    pub fn table(mut self) -> Option<WhichTable> {
+        self.table_mut().copied()
+    }
+
+    /// The same fault of another table.
+    pub(crate) fn in_table(mut self, which: WhichTable) -> Self {
+        if let Some(table) = self.table_mut() {
+            *table = which;
+        }
+        self
+    }
+
+    fn table_mut(&mut self) -> Option<&mut WhichTable> {
+        match self {
+            Self::Ragged { table, .. }
+            | Self::Crowded { table, .. }
+            | Self::BadRow { table, .. }
+            | Self::Misplaced { table, .. }
+            | Self::OverdrivenRow { table, .. } => Some(table),
+            _ => None,
         }
     }
 }
@@ -193,23 +278,34 @@ impl Display for Fault {
                 }
                 Ok(())
             }
-            Self::Ragged { length } => {
-                write!(f, "the table has length {length}; it must be {ROW_BYTES} for each row")
+            Self::Ragged { table, length } => {
+                write!(f, "{table} has length {length}; it must be {ROW_BYTES} for each row")
             }
-            Self::Crowded { rows } => {
-                write!(f, "the table has {rows} rows; it may have at most {MOST_ROWS}")
+            Self::Crowded { table, rows } => {
+                write!(f, "{table} has {rows} rows; it may have at most {MOST_ROWS}")
             }
-            Self::BadRow { row, position, field } | Self::OverdrivenRow { row, position, field } => {
-                write!(f, "row {row} at {}: {field}", At(position))
+            Self::CrowdedTogether { first, second, shared } => {
+                let together = first + second - shared;
+                write!(f, "the first table has {first} rows and the second {second}, ")?;
+                write!(f, "{shared} of them shared: together they have {together}; ")?;
+                write!(f, "they may have at most {MOST_ROWS}")
             }
-            Self::Misplaced { row, position, before } if position == before => {
-                let (at, previous) = (At(position), row.saturating_sub(1));
-                write!(f, "rows {previous} and {row} are both at {at}; each position may be there once")
+            Self::BadRow { table, row, position, field }
+            | Self::OverdrivenRow { table, row, position, field } => {
+                write!(f, "row {row}{} at {}: {field}", Of(table), At(position))
             }
-            Self::Misplaced { row, position, before } => {
-                let (at, previous, before) = (At(position), row.saturating_sub(1), At(before));
-                write!(f, "row {row} at {at} comes after row {previous} at {before}; ")?;
+            Self::Misplaced { table, row, position, before } if position == before => {
+                let (of, at, previous) = (Of(table), At(position), row.saturating_sub(1));
+                write!(f, "rows {previous} and {row}{of} are both at {at}; each position may be there once")
+            }
+            Self::Misplaced { table, row, position, before } => {
+                let (of, at, previous, before) = (Of(table), At(position), row.saturating_sub(1), At(before));
+                write!(f, "row {row}{of} at {at} comes after row {previous} at {before}; ")?;
                 write!(f, "the order is by x, then y, then z")
+            }
+            Self::Column { buffer: Buffer::Merged, length, expected } => {
+                let merged = Buffer::Merged;
+                write!(f, "the {merged} has length {length}; it must be {expected}, whatever the tables have")
             }
             Self::StateLength { buffer, length, expected } | Self::Column { buffer, length, expected } => {
                 write!(f, "the {buffer} has length {length}; for this table it must be {expected}")
@@ -228,6 +324,17 @@ impl Display for Fault {
                 let (last, left) = (u32::MAX, u32::MAX - tick);
                 write!(f, "tick {tick} plus {ticks} is past {last}, the last; {left} more can be asked for")
             }
+            Self::FarOffset { axis, value } => {
+                let most = FARTHEST_OFFSET;
+                write!(f, "the offset's d{axis} is {value}; it may be from -{most} to {most}")
+            }
+            Self::OffGround { second, position, moved, axis, least, most } => {
+                let (of, at, moved) = (Of(WhichTable::Second), At(position), At(moved));
+                write!(f, "row {second}{of} at {at} would come to {moved}, ")?;
+                write!(f, "and a coordinate may be from -{FARTHEST} to {FARTHEST}; ")?;
+                write!(f, "with this table d{axis} may be from {least} to {most}")
+            }
+            Self::Clash(clash) => clash.fmt(f),
             Self::Unexplained { .. } => {
                 write!(
                     f,
@@ -255,12 +362,35 @@ impl Display for Buffer {
             Self::Weak => "weak column",
             Self::Strong => "strong column",
             Self::Rows => "column of rows",
+            Self::Merged => "room for the merged table",
         })
     }
 }
 
+impl Display for WhichTable {
+    fn fmt(&self, f: &mut Formatter<'_>) -> fmt::Result {
+        f.pad(match self {
+            Self::Only => "the table",
+            Self::First => "the first table",
+            Self::Second => "the second table",
+        })
+    }
+}
+
+/// The table after a row in a message, where it is one of two.
+struct Of(WhichTable);
+
+impl Display for Of {
+    fn fmt(&self, f: &mut Formatter<'_>) -> fmt::Result {
+        match self.0 {
+            WhichTable::Only => Ok(()),
+            table => write!(f, " of {table}"),
+        }
+    }
+}
+
 /// A position in a message.
-struct At([i32; 3]);
+pub(crate) struct At(pub [i32; 3]);
 
 impl Display for At {
     fn fmt(&self, f: &mut Formatter<'_>) -> fmt::Result {

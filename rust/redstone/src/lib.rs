@@ -50,10 +50,11 @@
 //!
 //! # Calls
 //!
-//! [`Circuit`] is made of six calls over plain slices, which an editor with buffers of its own can use as they are:
-//! [`fresh`] once for a table, then [`tick`] and [`switch`] as the player waits and throws levers; [`settle`] asks what
-//! a table settles to with other devices; [`redraw`] draws the arms of dust, and [`supports`] lists what nothing holds
-//! up. The repository's README has their formats byte by byte:
+//! There are seven calls over plain slices, which an editor with buffers of its own can use as they are. [`Circuit`] is
+//! made of six: [`fresh`] once for a table, then [`tick`] and [`switch`] as the player waits and throws levers;
+//! [`settle`] asks what a table settles to with other devices; [`redraw`] draws the arms of dust, and [`supports`] lists
+//! what nothing holds up. The seventh, [`merge`], puts two tables in one, and [`merged`] is the same without a buffer to
+//! lend. The repository's README has their formats byte by byte:
 //!
 //! - The profile has [`PROFILE_BYTES`], one for each kind of block from Air on, such as [`BENCH_PROFILE`]; or
 //!   [`PROFILE_BYTES_WITH_BULB`], such as [`BENCH_PROFILE_WITH_BULB`], and only then may the table have bulbs.
@@ -102,6 +103,7 @@ mod code;
 mod device;
 mod fault;
 mod field;
+mod merge;
 mod row;
 mod table;
 #[cfg(test)]
@@ -112,8 +114,9 @@ pub use answer::{Refusal, RefusalKind, Rounds};
 pub use circuit::{Block, Circuit, Figures, Settled};
 pub use code::{Arm, Facing, Kind, Shape, UnknownCode, UnknownName};
 pub use device::Device;
-pub use fault::{Buffer, Fault};
+pub use fault::{Buffer, Fault, WhichTable};
 pub use field::BadField;
+pub use merge::{Clash, clashes};
 pub use row::{Row, RowError};
 pub use table::{find, rows, table};
 
@@ -134,6 +137,10 @@ pub const PROFILE_BYTES_WITH_BULB: usize = 14;
 pub const MOST_ROWS: usize = 1024;
 /// The largest coordinate; its negative is the smallest.
 pub const FARTHEST: i32 = 1_000_000;
+/// The largest part of the offset that [`merge`] moves a table by; its negative is the smallest.
+pub const FARTHEST_OFFSET: i32 = 2_000_000;
+/// Bytes of the room that is lent to [`merge`]: those of the most rows.
+pub const MERGE_BYTES: usize = MOST_ROWS * ROW_BYTES;
 
 /// The largest level: every signal, every weak and every strong power that a call writes is from 0 to this.
 ///
@@ -330,4 +337,72 @@ pub fn redraw(profile: &[u8], table: &mut [u8]) -> Result<(), Refusal> {
 pub fn supports(profile: &[u8], table: &[u8], rows: &mut [u16]) -> Result<usize, Refusal> {
     let answer = c::redstone_supports(profile, table, rows);
     answered(answer, || checks::supports(profile, table, rows)).map(|count| count as usize)
+}
+
+/// Writes the table that holds the rows of the first table and those of the second, moved by the offset, to the front of
+/// `out`, and answers how many rows it has. They are in the table's order, and all bytes after them stay as they were.
+/// `out` has [`MERGE_BYTES`], whatever the tables have. [`merged`] lends it such a room.
+///
+/// The offset is dx, dy and dz, each from -[`FARTHEST_OFFSET`] to [`FARTHEST_OFFSET`]. A position may be in both tables if
+/// the row's 32 bytes, once moved, are the same in both; it is written once. There is no profile, and bulbs are taken:
+/// whether a profile has a byte for them, the other calls say.
+///
+/// ```
+/// use redstone::{Kind, MERGE_BYTES, ROW_BYTES, Row, rows, table};
+///
+/// let (floor, lamp) = (Row::new(Kind::Solid, [0, 0, 0]), Row::new(Kind::RedstoneLamp, [0, 1, 0]));
+/// let first = table([floor, floor.with_position([1, 0, 0])]);
+/// let second = table([floor, lamp]);
+/// let mut out = vec![0; MERGE_BYTES];
+/// let count = redstone::merge(&first, &second, [1, 0, 0], &mut out)?;
+///
+/// let positions: Vec<_> = rows(&out[..ROW_BYTES * count])?.iter().map(Row::position).collect();
+/// assert_eq!(positions, [[0, 0, 0], [1, 0, 0], [1, 1, 0]]);
+/// # Ok::<(), Box<dyn std::error::Error>>(())
+/// ```
+///
+/// # Errors
+///
+/// Refusals 2 to 5 and 10 on the first table, then the same on the second, whose rows are taken as they are given, not
+/// moved; [`Fault::table`] tells which it is. Then 7 on `out`; 11 where the offset, or a coordinate that it moves, is out of
+/// range; 12 where a row differs from the one at its position in the other table, for which [`clashes`] lists all; and 3
+/// where there are more than [`MOST_ROWS`] rows together.
+pub fn merge(first: &[u8], second: &[u8], offset: [i32; 3], out: &mut [u8]) -> Result<usize, Refusal> {
+    let ([dx, dy, dz], room) = (offset, out.len());
+    let answer = c::redstone_merge(first, second, dx, dy, dz, out);
+    answered(answer, || checks::merge(first, second, offset, room)).map(|count| count as usize)
+}
+
+/// The table that holds the rows of the first table and those of the second, moved by the offset, as [`merge`] writes it.
+///
+/// A lever's room, and a lamp's that has the same block at its West side:
+///
+/// ```
+/// use redstone::{BENCH_PROFILE, Circuit, Kind, Row, merged, table};
+///
+/// let (floor, lamp) = (Row::new(Kind::Solid, [0, 0, 0]), Row::new(Kind::RedstoneLamp, [1, 0, 0]));
+/// let lever = Row::new(Kind::Lever, [2, 1, 0]).with_support([0, -1, 0]).with_powered(true);
+/// let first = table([lever, floor.with_position([2, 0, 0])]);
+/// let second = table([floor, lamp]);
+///
+/// let hall = Circuit::from_table(&BENCH_PROFILE, merged(&first, &second, [2, 0, 0])?)?;
+/// assert_eq!((hall.len(), hall.at([3, 0, 0]).map(|block| block.figures.weak)), (3, Some(15)));
+///
+/// let refusal = merged(&first, &second, [1, 0, 0]).unwrap_err();
+/// assert_eq!(
+///     refusal.to_string(),
+///     "refusal 12, clash: row 0 of the first table and row 1 of the second, once moved, are both at 2,0,0, and kind \
+///      (byte 12) is 1 in the first and 10 in the second; at one position the 32 bytes must be the same"
+/// );
+/// # Ok::<(), redstone::Refusal>(())
+/// ```
+///
+/// # Errors
+///
+/// Those of [`merge`], but for 7.
+pub fn merged(first: &[u8], second: &[u8], offset: [i32; 3]) -> Result<Vec<u8>, Refusal> {
+    let mut out = vec![0; MERGE_BYTES];
+    let count = merge(first, second, offset, &mut out)?;
+    out.truncate(ROW_BYTES * count);
+    Ok(out)
 }

@@ -27,6 +27,30 @@ const SHAPE: Field = field("shape", 28);
 const SUBTRACT: Field = field("subtract", 29);
 const UNUSED: [Field; 2] = [field("unused", 30), field("unused", 31)];
 
+/// The fields after the position, of a byte each, in their order.
+pub(crate) const AFTER_POSITION: [Field; 20] = [
+    KIND,
+    FACING,
+    POWERED,
+    LEVEL_GIVEN,
+    LEVEL,
+    DELAY_GIVEN,
+    DELAY,
+    SUPPORT_GIVEN,
+    SUPPORT[0],
+    SUPPORT[1],
+    SUPPORT[2],
+    ARMS_STORED,
+    ARMS[0],
+    ARMS[1],
+    ARMS[2],
+    ARMS[3],
+    SHAPE,
+    SUBTRACT,
+    UNUSED[0],
+    UNUSED[1],
+];
+
 /// A row of the table: a block and its position.
 ///
 /// A field that is not set is missing. Each has a getter by its name and a `with_` that sets it, or clears it where it

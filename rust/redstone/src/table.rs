@@ -1,7 +1,7 @@
 //! A whole table, in rows and in bytes.
 
 use crate::row::position_of;
-use crate::{Fault, PROFILE_BYTES_WITH_BULB, ROW_BYTES, Row};
+use crate::{Fault, PROFILE_BYTES_WITH_BULB, ROW_BYTES, Row, WhichTable};
 
 /// Packs rows into a table, in the table's order.
 ///
@@ -38,12 +38,13 @@ pub fn rows(table: &[u8]) -> Result<Vec<Row>, Fault> {
 /// Reads rows whose kinds have a byte in a profile of so many.
 pub(crate) fn rows_under(profile_bytes: usize, table: &[u8]) -> Result<Vec<Row>, Fault> {
     let (packed, rest) = table.as_chunks();
+    let only = WhichTable::Only;
     if !rest.is_empty() {
-        return Err(Fault::Ragged { length: table.len() });
+        return Err(Fault::Ragged { table: only, length: table.len() });
     }
     let read = |(row, bytes): (usize, &[u8; ROW_BYTES])| {
         let position = position_of(bytes);
-        Row::read(bytes, profile_bytes).map_err(|field| Fault::BadRow { row, position, field })
+        Row::read(bytes, profile_bytes).map_err(|field| Fault::BadRow { table: only, row, position, field })
     };
     packed.iter().enumerate().map(read).collect()
 }

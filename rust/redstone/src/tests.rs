@@ -4,6 +4,7 @@ mod calls;
 mod circuit;
 mod faults;
 mod header;
+mod merge;
 mod programs;
 mod repository;
 mod rows;

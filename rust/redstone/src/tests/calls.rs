@@ -2,8 +2,9 @@
 
 use super::{Lent, UNTOUCHED};
 use crate::{
-    Arm, BENCH_PROFILE, BENCH_PROFILE_WITH_BULB, Device, Facing, Kind, MOST_ROWS, ROW_BYTES, Refusal, Rounds,
-    Row, STATE_BYTES, fresh, redraw, rows, settle, supports, switch, table, tick,
+    Arm, BENCH_PROFILE, BENCH_PROFILE_WITH_BULB, Device, FARTHEST_OFFSET, Facing, Kind, MERGE_BYTES,
+    MOST_ROWS, ROW_BYTES, Refusal, Rounds, Row, STATE_BYTES, fresh, merge, redraw, rows, settle, supports,
+    switch, table, tick,
 };
 
 /// The number and the row of a refusal.
@@ -79,6 +80,12 @@ fn each_refusal_has_its_word_and_writes_nothing() {
         assert!(lent.untouched() && state == before);
         answer
     };
+    let merged_with = |other: &[u8], offset| {
+        let mut out = vec![UNTOUCHED; MERGE_BYTES];
+        let answer = merge(&good, other, offset, &mut out);
+        assert!(out.iter().all(|byte| *byte == UNTOUCHED));
+        answer.map(|_| panic!("a merge that is refused"))
+    };
     let bench = &BENCH_PROFILE;
     let answers = [
         (settled(&bench[..12], &good, &[0; 2], 17, 2), 1, 0, "profile"),
@@ -92,6 +99,8 @@ fn each_refusal_has_its_word_and_writes_nothing() {
         (ticked(vec![0; 2 * STATE_BYTES], u32::MAX, 1), 9, 0, "clock end"),
         (settled(bench, &overdriven, &[0; 3], 17, 3), 10, 2, "overdriven"),
         (ticked(vec![0; STATE_BYTES], 0, 1), 6, 0, "bad state"),
+        (merged_with(&good, [FARTHEST_OFFSET, 0, 0]), 11, 0, "off ground"),
+        (merged_with(&lamp(false), [0; 3]), 12, 0, "clash"),
     ];
     for (answer, number, row, word) in answers {
         let refusal = answer.expect_err(word);

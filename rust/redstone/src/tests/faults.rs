@@ -3,8 +3,8 @@
 use super::Lent;
 use crate::{
     BENCH_PROFILE, BENCH_PROFILE_WITH_BULB, Buffer, Circuit, Device, Facing, Fault, Kind, MOST_ROWS,
-    PROFILE_BYTES, ROW_BYTES, Refusal, Row, STATE_BYTES, checks, find, fresh, redraw, settle, supports,
-    switch, table, tick,
+    PROFILE_BYTES, ROW_BYTES, Refusal, Row, STATE_BYTES, WhichTable, checks, find, fresh, redraw, settle,
+    supports, switch, table, tick,
 };
 
 /// What all calls take.
@@ -503,7 +503,7 @@ fn a_bulb_without_its_byte_is_a_fault_among_others() {
 fn a_refusal_has_its_number_its_word_and_its_reason() {
     let table = table([Row::new(Kind::Solid, [0; 3]); 2]);
     let refusal = redraw(&BENCH_PROFILE, &mut table.clone()).expect_err("misplaced");
-    let reason = Fault::Misplaced { row: 1, position: [0; 3], before: [0; 3] };
+    let reason = Fault::Misplaced { table: WhichTable::Only, row: 1, position: [0; 3], before: [0; 3] };
     assert_eq!((refusal.number, refusal.row, refusal.fault), (5, 1, reason));
     assert_eq!(
         refusal.to_string(),

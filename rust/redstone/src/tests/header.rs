@@ -5,8 +5,9 @@ use std::fmt::Display;
 use crate::answer::REFUSALS;
 use crate::c::{DECLARED, Parameter};
 use crate::{
-    Arm, BENCH_PROFILE, BENCH_PROFILE_WITH_BULB, FARTHEST, Facing, Kind, MOST_LEVEL, MOST_ROWS,
-    PROFILE_BYTES, PROFILE_BYTES_WITH_BULB, ROW_BYTES, Rounds, STATE_BYTES, Shape, TORCH_CHARGES_ABOVE,
+    Arm, BENCH_PROFILE, BENCH_PROFILE_WITH_BULB, FARTHEST, FARTHEST_OFFSET, Facing, Kind, MERGE_BYTES,
+    MOST_LEVEL, MOST_ROWS, PROFILE_BYTES, PROFILE_BYTES_WITH_BULB, ROW_BYTES, Rounds, STATE_BYTES, Shape,
+    TORCH_CHARGES_ABOVE,
 };
 
 const HEADER: &str = include_str!("../../include/redstone.h");
@@ -107,6 +108,8 @@ fn the_header_has_the_constants() {
         ("MOST_LEVEL", MOST_LEVEL.into()),
         ("MOST_ROUNDS", Rounds::MOST as usize),
         ("FARTHEST", FARTHEST as usize),
+        ("FARTHEST_OFFSET", FARTHEST_OFFSET as usize),
+        ("MERGE_BYTES", MERGE_BYTES),
     ];
     let sizes = sizes.map(|(name, size)| (format!("REDSTONE_{name}"), size.to_string()));
     let torch = ("REDSTONE_TORCH_CHARGES_ABOVE".to_owned(), TORCH_CHARGES_ABOVE.to_string());

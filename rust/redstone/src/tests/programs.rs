@@ -67,11 +67,18 @@ tick 3, released: bulb dark, had power
 tick 4, ticked: bulb dark, had none
 ";
 
+/// What both examples of rooms write, but for their refusals.
+const ROOMS: &str = "\
+3 rows and 3 are 5
+tick 1: lamp 15
+";
+
 #[test]
 fn the_examples_in_c_run() {
     assert_eq!(c_program("examples/lamp.c"), format!("{LAMP}tick 7, refused: refusal 4, row 2\n"));
     let refusal = "tick 4, without the bulb's byte: refusal 4, row 0";
     assert_eq!(c_program("examples/bulb.c"), format!("{BULB}{refusal}\n"));
+    assert_eq!(c_program("examples/rooms.c"), format!("{ROOMS}refusal 12, row 0\n"));
 }
 
 #[test]
@@ -81,6 +88,9 @@ fn the_examples_in_rust_run() {
     let refusal = "refusal 4, bad row: row 0 at 0,0,0: kind (byte 12) is 13; that is CopperBulb, and the profile has 13 \
                    bytes: give it a fourteenth, the bulb's, such as 7";
     assert_eq!(rust_example("bulb"), format!("{BULB}{refusal}\n"));
+    let refusal = "refusal 12, clash: row 1 of the first table and row 1 of the second, once moved, are both at 1,0,0, and \
+                   kind (byte 12) is 1 in the first and 5 in the second; at one position the 32 bytes must be the same";
+    assert_eq!(rust_example("rooms"), format!("{ROOMS}{refusal}\n"));
 }
 
 #[test]

@@ -5,7 +5,7 @@ use std::str::FromStr;
 
 use crate::{
     Arm, BENCH_PROFILE_WITH_BULB, Columns, FARTHEST, Facing, Fault, Kind, ROW_BYTES, Row, RowError, Shape,
-    find, rows, settle, table,
+    WhichTable, find, rows, settle, table,
 };
 
 /// A row with every field.
@@ -223,11 +223,11 @@ fn a_look_up_orders_by_x_then_y_then_z() {
 #[test]
 fn a_table_that_is_none_says_where() {
     let mut packed = table([full(), bare()]);
-    assert_eq!(rows(&packed[..63]), Err(Fault::Ragged { length: 63 }));
+    assert_eq!(rows(&packed[..63]), Err(Fault::Ragged { table: WhichTable::Only, length: 63 }));
     packed[ROW_BYTES + 28] = 7;
     let fault = rows(&packed).expect_err("the shape is bad");
     assert!(
-        matches!(fault, Fault::BadRow { row: 1, position: [1, -2, FARTHEST], field } if field.byte() == 28)
+        matches!(fault, Fault::BadRow { row: 1, position: [1, -2, FARTHEST], field, .. } if field.byte() == 28)
     );
     assert_eq!(
         fault.to_string(),

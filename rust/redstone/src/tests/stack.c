@@ -15,6 +15,7 @@ static uint8_t devices[ROWS];
 static uint8_t state[ROWS * REDSTONE_STATE_BYTES];
 static uint8_t signal[ROWS], weak[ROWS], strong[ROWS];
 static uint16_t rows[ROWS];
+static uint8_t merged[REDSTONE_MERGE_BYTES];
 
 /* Where the stack was when the calls began. */
 static uint8_t *start;
@@ -56,6 +57,7 @@ static void *calls(void *unused) {
                              sizeof signal, weak, sizeof weak, strong, sizeof strong));
     accepted(redstone_redraw(profile, sizeof profile, table, sizeof table));
     accepted(redstone_supports(profile, sizeof profile, table, sizeof table, rows, ROWS));
+    accepted(redstone_merge(table, sizeof table, table, sizeof table, 0, 0, 0, merged, sizeof merged));
     return unused;
 }
 
