@@ -5,10 +5,12 @@ use std::fmt::Display;
 use std::ops::RangeInclusive;
 use std::str::FromStr;
 
+use redstone::FARTHEST_OFFSET;
 use redstone_text::Word;
 
-use crate::command::{Choice, Command, Failure, PROFILE, SWITCH, TICKS};
+use crate::command::{BY, Choice, Command, Failure, PROFILE, SWITCH, TICKS};
 use crate::input::is_standard_input;
+use crate::name::Position;
 use crate::run::Run;
 use crate::{DEFAULT_TICKS, Hall, MOST_SHOWN_TICKS, input};
 
@@ -103,6 +105,30 @@ impl Arguments {
             return Err(Failure::sentence("standard input is named twice: it can be read once"));
         }
         Ok(&self.operands)
+    }
+
+    /// The two files that are named.
+    pub(crate) fn two_files(&self) -> Result<[&OsStr; 2], Failure> {
+        match self.files()? {
+            [first, second] => Ok([first, second]),
+            [_, _, third, ..] => {
+                let third = third.to_string_lossy();
+                Err(Failure::sentence(format!("{third} is one word too many: give two names, and no third")))
+            }
+            _ => Err(Failure::sentence("one file alone is named: give a second one after it")),
+        }
+    }
+
+    /// The offset of `--by`, which is none unless said.
+    pub(crate) fn offset(&self) -> Result<Position, Failure> {
+        let Some(value) = self.option(&BY) else { return Ok([0; 3]) };
+        let (text, what) = (value.to_string_lossy(), "an offset dx,dy,dz");
+        let word = Word { line: 1, column: 1, text: &text };
+        // What 32 bits hold is for the call to refuse. Of all else the error has what it may be.
+        let offset = word.numbers(i32::MIN..=i32::MAX, what);
+        offset
+            .or_else(|_| word.numbers(-FARTHEST_OFFSET..=FARTHEST_OFFSET, what))
+            .map_err(|error| Failure::sentence(format!("{} {text}: {}", BY.name, error.message())))
     }
 
     /// The profile that `--profile` names.

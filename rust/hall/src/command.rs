@@ -68,6 +68,14 @@ pub const PROFILE: Choice = Choice {
     may_repeat: false,
 };
 
+/// How far a hall is moved.
+pub const BY: Choice = Choice {
+    name: "--by",
+    value: "dx,dy,dz",
+    help: "moves the second hall so far along x, y and z, each from -2000000 to 2000000; 0,0,0 unless said",
+    may_repeat: false,
+};
+
 /// Where the output goes.
 pub const OUT: Choice = Choice {
     name: "-o",

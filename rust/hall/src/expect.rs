@@ -7,7 +7,7 @@ use redstone_text::{Error, Line, Word, Words, position_text};
 
 use crate::device::is_candidate;
 use crate::hall::Hall;
-use crate::name::{Position, find, kind_name};
+use crate::name::{Position, find, kind_name, moved};
 use crate::run::{Frame, Run};
 use crate::switch::{TICK, after_tick, not_there};
 
@@ -155,6 +155,20 @@ impl Expectation {
             About::Row(_, position) => Some(position),
             About::Rounds | About::Blocks => None,
         }
+    }
+
+    /// The same in a hall that is moved by an offset.
+    pub(crate) fn moved(self, offset: Position) -> Self {
+        let about = match self.about {
+            About::Row(subject, position) => About::Row(subject, moved(position, offset)),
+            whole @ (About::Rounds | About::Blocks) => whole,
+        };
+        Self { about, ..self }
+    }
+
+    /// The line that is read as this.
+    pub(crate) fn as_line(&self) -> String {
+        format!("{EXPECT} {self}")
     }
 
     /// The number that a frame of these rows gives.

@@ -20,6 +20,8 @@ pub struct Hall {
     pub fresh: Circuit,
     /// The rows, in the table's order.
     pub rows: Vec<Row>,
+    /// The line of each row, from 1 on; none at all in the packed form.
+    pub lines: Vec<usize>,
     /// What is set during a run.
     pub switches: Vec<Switch>,
     /// What the file expects of the figures.
@@ -53,6 +55,7 @@ impl Hall {
         let fresh = Circuit::new(profile.unwrap_or(&table.profile), table.rows.iter().copied())
             .map_err(|refusal| refused_table(name, &refusal, &reader))?;
         let rows = table.rows;
+        let row_lines = rows.iter().filter_map(|row| reader.line_of(row.position())).collect();
         let switches =
             switches.into_iter().map(|placed| check_place(placed, &rows)).collect::<Result<_, _>>();
         let expectations =
@@ -63,6 +66,7 @@ impl Hall {
             switches: switches.map_err(refused)?,
             expectations: expectations.map_err(refused)?,
             rows,
+            lines: row_lines,
         })
     }
 
@@ -76,7 +80,14 @@ impl Hall {
             Refused::file(name, format!("{} ({PACKED})", sentence(&refusal, &IN_PACKED)))
         })?;
         let rows = fresh.blocks().map(|block| block.row).collect();
-        Ok(Self { name: name.to_owned(), fresh, rows, switches: Vec::new(), expectations: Vec::new() })
+        Ok(Self {
+            name: name.to_owned(),
+            fresh,
+            rows,
+            lines: Vec::new(),
+            switches: Vec::new(),
+            expectations: Vec::new(),
+        })
     }
 
     /// Adds a switch, as in `4:0,1,0=on`.
@@ -88,6 +99,15 @@ impl Hall {
         let placed = Switch::read_word(Word { line: 1, column: 1, text })?;
         self.switches.push(check_place(placed, &self.rows)?);
         Ok(())
+    }
+
+    /// The file and, where it has lines, the line of a row, as in `door.hall:12`.
+    #[must_use]
+    pub fn place(&self, row: usize) -> String {
+        match self.lines.get(row) {
+            Some(line) => format!("{}:{line}", self.name),
+            None => self.name.clone(),
+        }
     }
 
     /// The hall from its fresh state on.

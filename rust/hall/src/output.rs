@@ -66,12 +66,16 @@ pub(crate) fn deliver(
 
 /// Says, once all is written, how many lines with switches and expectations the halls have that were left out, and why.
 pub(crate) fn tell_left_out(halls: &[Hall], why: &str, out: &mut dyn Write) -> Result<(), Failure> {
+    let left = halls.iter().map(|hall| hall.switches.len() + hall.expectations.len()).sum();
+    tell_lines(left, &format!("with switches and expectations left out: {why}"), out)
+}
+
+/// Says something of so many lines, once all is written; nothing of none.
+pub(crate) fn tell_lines(number: usize, what: &str, out: &mut dyn Write) -> Result<(), Failure> {
     out.flush()?;
-    let left: usize = halls.iter().map(|hall| hall.switches.len() + hall.expectations.len()).sum();
-    if left > 0 {
-        let lines = counted(left, "line");
+    if number > 0 {
         // It changes nothing that this cannot be said.
-        let _ = writeln!(io::stderr(), "hall: {lines} with switches and expectations left out: {why}.");
+        let _ = writeln!(io::stderr(), "hall: {} {what}.", counted(number, "line"));
     }
     Ok(())
 }

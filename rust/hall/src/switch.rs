@@ -6,7 +6,7 @@ use redstone::{Kind, Row};
 use redstone_text::{Error, Line, Word, Words, position_text};
 
 use crate::MOST_TICKS;
-use crate::name::{Position, find, is_switch, kind_name};
+use crate::name::{Position, find, is_switch, kind_name, moved};
 
 /// A lever, button or plate that is set once so many ticks are done. The figures of that tick are those after it.
 #[derive(Clone, Copy, Debug, Eq, PartialEq)]
@@ -52,6 +52,19 @@ impl Switch {
             on: setting.one_of("a setting", SETTINGS)?,
         };
         Ok((switch, place))
+    }
+
+    /// The same in a hall that is moved by an offset.
+    pub(crate) fn moved(self, offset: Position) -> Self {
+        Self { position: moved(self.position, offset), ..self }
+    }
+
+    /// The line that is read as this.
+    pub(crate) fn as_line(&self) -> String {
+        match self.tick {
+            0 => format!("{SWITCH} {self}"),
+            tick => format!("{SWITCH} {TICK} {tick} {self}"),
+        }
     }
 }
 

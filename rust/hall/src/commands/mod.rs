@@ -5,6 +5,7 @@ use crate::command::Command;
 mod check;
 mod csv;
 mod levels;
+mod merge;
 mod new;
 mod pack;
 mod report;
@@ -22,5 +23,6 @@ pub const COMMANDS: &[&Command] = &[
     &csv::COMMAND,
     &pack::COMMAND,
     &unpack::COMMAND,
+    &merge::COMMAND,
     &stream::COMMAND,
 ];

@@ -3,6 +3,7 @@
 mod check;
 mod generated;
 mod hints;
+mod merge;
 mod output;
 mod page;
 mod readme;

@@ -54,6 +54,21 @@ fn the_difference_is_that_of_another_delay() {
     assert_eq!(own.status, Some(0), "{}", own.text());
 }
 
+/// The lines that merge two rooms, and the chart of both.
+#[test]
+fn the_chart_of_two_rooms_is_that_of_the_lines_before_it() {
+    let readme = readme();
+    let blocks = blocks(section(&readme));
+    let at = blocks.iter().position(|block| block.starts_with("hall merge ")).expect("lines");
+    let lines: Vec<_> = blocks[at].lines().map(|line| format!("${line}")).collect();
+    let (folder, halls) = (folder("readme_rooms"), root().join("halls"));
+    let line = format!("cd {} && ln -s {} . && {}", folder.display(), halls.display(), lines.join(" && "));
+    let done = run(Command::new("sh").args(["-c", &line]).env("hall", env!("CARGO_BIN_EXE_hall")), b"");
+    assert_eq!(done.status, Some(0), "{}", done.err);
+    assert!(done.text().contains(blocks[at + 1]), "{}", done.text());
+    assert!(done.text().starts_with("both.hall: 11 blocks, ") && readme.contains("8 blocks and 5 are 11."));
+}
+
 #[test]
 fn each_command_and_each_figure_is_named() {
     let readme = readme();

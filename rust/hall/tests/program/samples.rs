@@ -5,7 +5,7 @@ use redstone::BENCH_PROFILE;
 use crate::support::{file, hall, samples};
 
 #[test]
-fn there_are_eight_halls_and_nothing_else() {
+fn there_are_ten_halls_and_nothing_else() {
     let names = [
         "comparator-subtract",
         "fading-line",
@@ -15,6 +15,8 @@ fn there_are_eight_halls_and_nothing_else() {
         "vault-door",
         "charging/torch-tower",
         "bulbs/bulb-toggle",
+        "rooms/lamp-room",
+        "rooms/lever-room",
     ];
     assert_eq!(samples(), names.map(|name| format!("halls/{name}.hall")));
 }

@@ -6,7 +6,7 @@ use std::collections::BTreeSet;
 use std::path::{Path, PathBuf};
 use std::{env, fs};
 
-use crate::support::{bench_samples, file, hall, samples};
+use crate::support::{MERGED_ROOMS, bench_samples, file, hall, samples};
 
 /// The words of a case, and the name of the file that holds what it writes.
 fn cases() -> Vec<(Vec<String>, String)> {
@@ -29,7 +29,8 @@ fn cases() -> Vec<(Vec<String>, String)> {
         }
     }
     cases.push((words(&format!("stream {}", bench_samples().join(" "))), "samples.stream.bin".to_owned()));
-    for command in ["new", "run", "levels", "check", "report", "csv", "pack", "unpack", "stream"] {
+    cases.push((MERGED_ROOMS.map(str::to_owned).to_vec(), "rooms.merge.txt".to_owned()));
+    for command in ["new", "run", "levels", "check", "report", "csv", "pack", "unpack", "merge", "stream"] {
         cases.push((words(&format!("{command} --help")), format!("help-{command}.txt")));
     }
     cases.push((words("--help"), "help.txt".to_owned()));

@@ -54,12 +54,12 @@ pub fn run(command: &mut Command, input: &[u8]) -> Done {
 
 /// The sample halls, as in `halls/vault-door.hall`.
 pub fn samples() -> Vec<String> {
-    [bench_samples(), charging_samples(), names(BULBS)].concat()
+    [bench_samples(), charging_samples(), names(BULBS), names(ROOMS)].concat()
 }
 
 /// Those of the bench profile without bulbs, as `halls/*.hall` names them.
 pub fn bench_samples() -> Vec<String> {
-    names("halls").into_iter().filter(|name| name != CHARGING && name != BULBS).collect()
+    names("halls").into_iter().filter(|name| ![CHARGING, BULBS, ROOMS].contains(&name.as_str())).collect()
 }
 
 /// Those of the bench profile with the value by which torches charge the block above.
@@ -69,6 +69,11 @@ pub fn charging_samples() -> Vec<String> {
 
 const CHARGING: &str = "halls/charging";
 const BULBS: &str = "halls/bulbs";
+const ROOMS: &str = "halls/rooms";
+
+/// Two rooms, and the offset by which the second is beside the first.
+pub const MERGED_ROOMS: [&str; 5] =
+    ["merge", "halls/rooms/lever-room.hall", "halls/rooms/lamp-room.hall", "--by", "3,0,0"];
 
 /// What stands in a folder of the repository.
 fn names(folder: &str) -> Vec<String> {

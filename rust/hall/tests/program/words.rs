@@ -28,6 +28,42 @@ fn a_sentence_says_what_to_do() {
         (&["check", "-", "-"], "standard input is named twice: it can be read once."),
         (&["stream"], "no file is named: give some, or - for standard input."),
         (&["stream", "-", LAMP, "-"], "standard input is named twice: it can be read once."),
+        (&["merge"], "no file is named: give some, or - for standard input."),
+        (&["merge", LAMP], "one file alone is named: give a second one after it."),
+        (&["merge", LAMP, LAMP, "1,0,0"], "1,0,0 is one word too many: give two names, and no third."),
+        (&["merge", "-", "-"], "standard input is named twice: it can be read once."),
+        (
+            &["merge", LAMP, LAMP, "-1,0,0"],
+            "-1,0,0 is not an option of `hall merge`: see `hall merge --help`.",
+        ),
+        (&["merge", LAMP, LAMP, "--by"], "--by has no value: give --by dx,dy,dz."),
+        (&["merge", LAMP, LAMP, "--by", "--profile", "x"], "--by has no value: give --by dx,dy,dz."),
+        (&["merge", LAMP, LAMP, "--by=1,0,0", "--by=1,0,0"], "--by is given twice: give it once."),
+        (&["merge", LAMP, LAMP, "--by", "1,2"], "--by 1,2: found \"1,2\", expected an offset dx,dy,dz."),
+        (
+            &["merge", LAMP, LAMP, "--by", "1,2,east"],
+            "--by 1,2,east: found \"east\", expected a whole number from -2000000 to 2000000.",
+        ),
+        (
+            &["merge", LAMP, LAMP, "--by", "1,3000000000,0"],
+            "--by 1,3000000000,0: found \"3000000000\", expected a whole number from -2000000 to 2000000.",
+        ),
+        (
+            &["merge", LAMP, LAMP, "--by", "0,2000001,0"],
+            "--by 0,2000001,0: refusal 11, off ground: the offset's dy is 2000001; it may be from -2000000 to 2000000.",
+        ),
+        (
+            &["merge", LAMP, "halls/slab-rise.hall", "-o", LAMP, "--by", "0,9,0"],
+            "halls/repeater-lock.hall is the hall itself: name another file after -o, or it would be lost.",
+        ),
+        (
+            &["merge", "halls/slab-rise.hall", LAMP, "-o", LAMP, "--by", "0,9,0"],
+            "halls/repeater-lock.hall is the hall itself: name another file after -o, or it would be lost.",
+        ),
+        (
+            &["merge", LAMP, "halls/slab-rise", "--by", "0,9,0"],
+            "halls/slab-rise: there is no such file: did you mean halls/slab-rise.hall?",
+        ),
         (
             &["stream", "halls/slab-rise.hall", LAMP, "-o", LAMP],
             "halls/repeater-lock.hall is the hall itself: name another file after -o, or it would be lost.",

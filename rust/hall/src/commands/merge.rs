@@ -1,0 +1,169 @@
+//! `hall merge`: two halls in one.
+
+use std::fmt::Write as _;
+use std::io::Write;
+
+use redstone::{Circuit, Fault, Kind, Refusal, clashes, merged};
+use redstone_text::{Table, position_text, row_text};
+
+use crate::arguments::Arguments;
+use crate::command::{BY, Command, Failure, OUT, PROFILE, Status};
+use crate::name::{Position, block_name, counted, find};
+use crate::output::{deliver, tell_lines};
+use crate::switch::Switch;
+use crate::{Hall, Refused, input};
+
+pub const COMMAND: Command = Command {
+    name: "merge",
+    operands: "FIRST SECOND",
+    summary: "writes two halls as one, the second moved by an offset",
+    help: "\
+For halls that are drawn room by room. It writes the rows of both in the text form, those of the second moved. A position
+that both have is written once; they are to have the same block there, with the same fields. Both are to have the same
+profile, but the bulb's byte may be missing in one.
+Switches and expectations are written, too, those of the second moved as its rows are, and a line of it that the first one has
+is left out. Left out are comments, and what is expected of rounds and blocks, since that is about a whole table. What a
+room expects by itself may not be so in the whole: see `hall check`.",
+    options: &[&BY, &PROFILE, &OUT],
+    run,
+};
+
+/// The most clashes that are shown one by one.
+const SHOWN_CLASHES: usize = 5;
+
+fn run(arguments: &Arguments, out: &mut dyn Write) -> Result<Status, Failure> {
+    let (files, file, offset) = (arguments.two_files()?, arguments.option(&OUT), arguments.offset()?);
+    let given = arguments.profile()?;
+    let [first, second] = files.map(|file| input::read(file, given.as_deref()));
+    let (first, second) = (first?, second?);
+    let profile = one_profile(&first, &second)?;
+    let table = merged(first.fresh.table(), second.fresh.table(), offset)
+        .map_err(|refusal| Failure::Sentence(sentence(&refusal, &first, &second, offset)))?;
+    let rows = Circuit::from_table(profile, table)?.blocks().map(|block| block.row).collect();
+    let text = Table { profile: profile.to_vec(), rows }.to_string();
+    let sections = sections(&first, &second, offset)?;
+    deliver((text + &sections).as_bytes(), file, &files, out)?;
+    let of_whole_table =
+        |hall: &Hall| hall.expectations.iter().filter(|one| one.position().is_none()).count();
+    let what = "left out that expect rounds or blocks: the hall is another now, so write them anew";
+    tell_lines(of_whole_table(&first) + of_whole_table(&second), what, out)?;
+    Ok(Status::Good)
+}
+
+/// The profile of both halls. Where one lacks the bulb's byte, it has no bulbs either, and the other's is good for it.
+fn one_profile<'a>(first: &'a Hall, second: &'a Hall) -> Result<&'a [u8], Refused> {
+    let (one, other) = (first.fresh.profile(), second.fresh.profile());
+    match (0..).zip(one.iter().zip(other)).find(|(_, (one, other))| one != other) {
+        None if one.len() < other.len() => Ok(other),
+        None => Ok(one),
+        Some((code, (one, other))) => {
+            let (kind, first) = (Kind::try_from(code).map_or("Air", Kind::name), &first.name);
+            let message = format!(
+                "its profile has {kind}={other}, and that of {first} has {kind}={one}: write the same line `profile` \
+                 into both, or give a profile for both with --profile"
+            );
+            Err(Refused::file(&second.name, message))
+        }
+    }
+}
+
+/// What a refusal of two halls says in terms of their files, and what to do.
+fn sentence(refusal: &Refusal, first: &Hall, second: &Hall, offset: Position) -> String {
+    let (number, word) = (refusal.number, refusal.kind());
+    let (one, other) = (&first.name, &second.name);
+    match refusal.fault {
+        Fault::FarOffset { .. } => format!("{} {}: {refusal}", BY.name, position_text(offset)),
+        Fault::OffGround { second: row, moved, axis, least, most, .. } => {
+            let (place, block, moved) =
+                (second.place(row), block_name(&second.rows[row]), position_text(moved));
+            format!(
+                "{place}: refusal {number}, {word}: {block} would come to {moved}, where no block may be: give a \
+                 d{axis} from {least} to {most} after {}",
+                BY.name
+            )
+        }
+        Fault::Clash(_) => {
+            format!("refusal {number}, {word}: {}", clashes_text(first, second, offset))
+        }
+        Fault::CrowdedTogether { first, second, shared } => format!(
+            "refusal {number}, {word}: {one} has {first} rows and {other} {second}, {shared} of them in both, which are \
+             {} together: a hall has at most {}, so keep them apart, or take blocks out",
+            first + second - shared,
+            redstone::MOST_ROWS
+        ),
+        _ => refusal.to_string(),
+    }
+}
+
+/// The rows of both halls at the positions where they clash.
+fn clashes_text(first: &Hall, second: &Hall, offset: Position) -> String {
+    let all: Vec<_> = clashes(first.fresh.table(), second.fresh.table(), offset).collect();
+    let (one, other, by) = (&first.name, &second.name, position_text(offset));
+    let mut text = format!("{one}, and {other} moved by {by}, differ at {}:", counted(all.len(), "position"));
+    for clash in all.iter().take(SHOWN_CLASHES) {
+        let _ = write!(text, "\n    {}", position_text(clash.position));
+        for (hall, row) in [(first, clash.first), (second, clash.second)] {
+            let _ = write!(text, "\n        {}: {}", hall.place(row), row_text(&hall.rows[row]));
+        }
+    }
+    if let Some(more) = all.len().checked_sub(SHOWN_CLASHES).filter(|more| *more > 0) {
+        let _ = write!(text, "\n    and {more} more");
+    }
+    text + "\nMake both rows the same, or give another offset after " + BY.name
+}
+
+/// The lines with switches and expectations of both halls, but for those about a whole table.
+fn sections(first: &Hall, second: &Hall, offset: Position) -> Result<String, Failure> {
+    let moved: Vec<_> = second.switches.iter().map(|switch| switch.moved(offset)).collect();
+    check_switches(first, second, &moved)?;
+    let own = lines(first, &first.switches, [0; 3]);
+    // What the first hall sets as well is set by its own lines.
+    let not_set = moved.into_iter().filter(|switch| setting(&first.switches, switch).is_none());
+    let mut others = lines(second, &not_set.collect::<Vec<_>>(), offset);
+    others.retain(|line| !own.contains(line));
+    let title = format!("{}, moved by {}", second.name, position_text(offset));
+    Ok(section(&first.name, &own) + &section(&title, &others))
+}
+
+/// The lines with these switches, and with what a hall expects of positions, moved by an offset.
+fn lines(hall: &Hall, switches: &[Switch], offset: Position) -> Vec<String> {
+    let expectations = hall.expectations.iter().filter(|expectation| expectation.position().is_some());
+    let expectations = expectations.map(|expectation| expectation.moved(offset).as_line());
+    switches.iter().map(Switch::as_line).chain(expectations).collect()
+}
+
+/// Lines under a comment, after an empty line.
+fn section(title: &str, lines: &[String]) -> String {
+    if lines.is_empty() {
+        return String::new();
+    }
+    // A file's name may have a line's end in it.
+    format!("\n# {}\n{}\n", title.replace(char::is_control, "?"), lines.join("\n"))
+}
+
+/// What switches set the same block to at the same tick as another: the last of them counts.
+fn setting(switches: &[Switch], like: &Switch) -> Option<bool> {
+    let is_like = |switch: &&Switch| (switch.tick, switch.position) == (like.tick, like.position);
+    switches.iter().rfind(is_like).map(|switch| switch.on)
+}
+
+/// That no block is set on by one hall and off by the other, moved, at the same tick.
+fn check_switches(first: &Hall, second: &Hall, moved: &[Switch]) -> Result<(), Failure> {
+    for switch in moved {
+        let (one, other) = (setting(&first.switches, switch), setting(moved, switch));
+        if one.is_some() && one != other {
+            let row = find(&first.rows, switch.position).map(|row| block_name(&first.rows[row]));
+            let block = row.unwrap_or_else(|| position_text(switch.position));
+            let word = |on| if on == Some(true) { "on" } else { "off" };
+            return Err(Failure::sentence(format!(
+                "at tick {} {} sets {block} {}, and {} sets the same block {}: take one of the two lines out",
+                switch.tick,
+                first.name,
+                word(one),
+                second.name,
+                word(other)
+            )));
+        }
+    }
+    Ok(())
+}
