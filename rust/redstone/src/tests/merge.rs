@@ -274,6 +274,15 @@ fn of_two_faults_the_first_is_told() {
     }
 }
 
+/// One row of the second table clashes, and the next is off the ground.
+#[test]
+fn off_ground_is_told_before_a_clash() {
+    let second = [solid([FARTHEST - 1, 0, 0]).with_kind(Kind::Piston), solid([FARTHEST, 0, 0])];
+    let first = solid([FARTHEST, 0, 0]);
+    assert_eq!(Input::new([first], second, [1, 0, 0]).refusal().number, 11);
+    assert_eq!(Input::new([first], [second[0]], [1, 0, 0]).refusal().number, 12);
+}
+
 /// A row of the second table is read as it is given: one off the ground is bad, though the offset would mend it.
 #[test]
 fn the_second_table_is_judged_before_it_is_moved() {
