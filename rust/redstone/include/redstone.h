@@ -74,7 +74,8 @@
  * at fault for 4, 5, 10 and a value in 6, and else 0. Every call gives 10 on the rows, settle on the device column, too,
  * and tick and switch on the state. redstone_merge tests the first table for 2 to 5 and 10, then the second, as it is
  * given and with its own rows counted, and then 7, 11, 12 and 3, of both together. Where it gives 2 to 5 or 10, the fault
- * is in the first table if the same call with second_length 0 gives it, too.
+ * is in the first table if the same call with second_length 0 gives it, too. Else it is in the second; or, of 3 where
+ * neither table has more than 1024 rows, in both together.
  *
  *   1  profile     not 13 bytes nor 14, Air not 0, or a byte above 31, the torch's above 63
  *   2  ragged      table length not a multiple of 32

@@ -238,8 +238,9 @@ impl Fault {
     /// The table at fault: of a refusal by [`merge`](crate::merge) the number and the row do not tell. `None` where it is no
     /// single table.
     #[must_use]
-    pub fn table(mut self) -> Option<WhichTable> {
-        self.table_mut().copied()
+    pub fn table(&self) -> Option<WhichTable> {
+        let mut fault = *self;
+        fault.table_mut().copied()
     }
 
     /// The same fault of another table.

@@ -3,7 +3,7 @@
 use std::fmt::Write as _;
 use std::io::Write;
 
-use redstone::{Circuit, Fault, Kind, Refusal, clashes, merged};
+use redstone::{Circuit, Fault, Kind, MOST_ROWS, Refusal, clashes, merged};
 use redstone_text::{Table, position_text, row_text};
 
 use crate::arguments::Arguments;
@@ -21,9 +21,9 @@ pub const COMMAND: Command = Command {
 For halls that are drawn room by room. It writes the rows of both in the text form, those of the second moved. A position
 that both have is written once; they are to have the same block there, with the same fields. Both are to have the same
 profile, but the bulb's byte may be missing in one.
-Switches and expectations are written, too, those of the second moved as its rows are, and a line of it that the first one has
-is left out. Left out are comments, and what is expected of rounds and blocks, since that is about a whole table. What a
-room expects by itself may not be so in the whole: see `hall check`.",
+Switches and expectations are written, too, those of the second moved as its rows are, and a line that both have once. A
+block that both set at one tick is to be set alike. Left out are comments, and what is expected of rounds and blocks, since
+that is about a whole table. What a room expects by itself may not be so in the whole: see `hall check`.",
     options: &[&BY, &PROFILE, &OUT],
     run,
 };
@@ -36,18 +36,22 @@ fn run(arguments: &Arguments, out: &mut dyn Write) -> Result<Status, Failure> {
     let given = arguments.profile()?;
     let [first, second] = files.map(|file| input::read(file, given.as_deref()));
     let (first, second) = (first?, second?);
-    let profile = one_profile(&first, &second)?;
-    let table = merged(first.fresh.table(), second.fresh.table(), offset)
-        .map_err(|refusal| Failure::Sentence(sentence(&refusal, &first, &second, offset)))?;
-    let rows = Circuit::from_table(profile, table)?.blocks().map(|block| block.row).collect();
-    let text = Table { profile: profile.to_vec(), rows }.to_string();
-    let sections = sections(&first, &second, offset)?;
-    deliver((text + &sections).as_bytes(), file, &files, out)?;
+    deliver(merged_text(&first, &second, offset)?.as_bytes(), file, &files, out)?;
     let of_whole_table =
         |hall: &Hall| hall.expectations.iter().filter(|one| one.position().is_none()).count();
     let what = "left out that expect rounds or blocks: the hall is another now, so write them anew";
     tell_lines(of_whole_table(&first) + of_whole_table(&second), what, out)?;
     Ok(Status::Good)
+}
+
+/// The text of both halls, the second moved by an offset.
+fn merged_text(first: &Hall, second: &Hall, offset: Position) -> Result<String, Failure> {
+    let profile = one_profile(first, second)?;
+    let table = merged(first.fresh.table(), second.fresh.table(), offset)
+        .map_err(|refusal| Failure::Sentence(sentence(&refusal, first, second, offset)))?;
+    let rows = Circuit::from_table(profile, table)?.blocks().map(|block| block.row).collect();
+    let table = Table { profile: profile.to_vec(), rows };
+    Ok(format!("{table}{}", sections(first, second, offset)?))
 }
 
 /// The profile of both halls. Where one lacks the bulb's byte, it has no bulbs either, and the other's is good for it.
@@ -89,7 +93,7 @@ fn sentence(refusal: &Refusal, first: &Hall, second: &Hall, offset: Position) ->
             "refusal {number}, {word}: {one} has {first} rows and {other} {second}, {shared} of them in both, which are \
              {} together: a hall has at most {}, so keep them apart, or take blocks out",
             first + second - shared,
-            redstone::MOST_ROWS
+            MOST_ROWS
         ),
         _ => refusal.to_string(),
     }

@@ -141,6 +141,13 @@ fn a_hall_is_merged_with_itself() {
 }
 
 #[test]
+fn a_hall_without_rows_is_merged() {
+    assert_eq!(written("merge_none", "blocks=0\n", "blocks=0\n", &["--by", "7,7,7"]).0, "blocks=0\n");
+    let moved = written("merge_one", "blocks=0\n", LEVER, &["--by", "-1,0,2"]).0;
+    assert_eq!(moved, "blocks=1\n-1,1,2 Lever\n");
+}
+
+#[test]
 fn a_line_of_both_is_written_once() {
     let one = format!("{LEVER}1,1,0 RedstoneWire\nswitch tick 4 0,1,0 on\nexpect tick 4 dust 1,1,0 = 15\n");
     let other = "-1,1,0 Lever\n-1,5,0 RedstoneLamp\nswitch tick 4 -1,1,0 on\nswitch tick 5 -1,1,0 off\n\

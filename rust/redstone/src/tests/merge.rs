@@ -274,6 +274,22 @@ fn of_two_faults_the_first_is_told() {
     }
 }
 
+/// How the C header says to find out which table is at fault.
+#[test]
+fn without_the_second_table_a_fault_of_the_first_alone_is_told_again() {
+    for (change, number, table, row) in FAULTS {
+        let mut input = Input::small();
+        change(&mut input);
+        let alone = Input { second: vec![], ..input };
+        let again = alone.answer().err().map(|refusal| (refusal.number, refusal.row));
+        if table == FIRST {
+            assert_eq!(again, Some((number, row)));
+        } else {
+            assert!([None, Some((7, 0)), Some((11, 0))].contains(&again), "{again:?}");
+        }
+    }
+}
+
 /// One row of the second table clashes, and the next is off the ground.
 #[test]
 fn off_ground_is_told_before_a_clash() {
