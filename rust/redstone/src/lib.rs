@@ -88,8 +88,8 @@
 //!
 //! # Threads and stack
 //!
-//! There are no globals: any thread may call at any time. A call allocates nothing and uses 45 KB of stack; a thread
-//! with 48 KiB free is enough for it.
+//! There are no globals: any thread may call at any time. A call allocates nothing, and a thread with 48 KiB of free
+//! stack is enough for it.
 
 #![deny(unsafe_code, unsafe_op_in_unsafe_fn)]
 #![warn(missing_docs)]
