@@ -94,12 +94,17 @@ impl Display for Case {
     fn fmt(&self, f: &mut Formatter<'_>) -> fmt::Result {
         writeln!(f, "seed {} ({})", self.seed, self.sort)?;
         writeln!(f, "profile {}", hex(&self.profile))?;
-        for bytes in self.table.chunks(ROW_BYTES) {
-            let text = Row::try_from(bytes).map_or(String::new(), |row| row_text(&row));
-            writeln!(f, "row     {} {text}", hex(bytes))?;
-        }
-        Ok(())
+        f.write_str(&row_lines(&self.table))
     }
+}
+
+/// A line for each row of a table, which need not be accepted.
+pub fn row_lines(table: &[u8]) -> String {
+    let line = |bytes: &[u8]| {
+        let text = Row::try_from(bytes).map_or(String::new(), |row| row_text(&row));
+        format!("row     {} {text}\n", hex(bytes))
+    };
+    table.chunks(ROW_BYTES).map(line).collect()
 }
 
 fn hex(bytes: &[u8]) -> String {

@@ -1,6 +1,6 @@
 //! Holds the proved functions of the static libraries `probe` and `redstone`, and the programs `settle` and `month`,
-//! against the original Rust, and look-ups on rows in any order, what a torch charges, the light of bulbs and what is
-//! overdriven against document 02.
+//! against the original Rust, and look-ups on rows in any order, what a torch charges, the light of bulbs, what is
+//! overdriven and two tables in one against document 02.
 
 pub mod bulb;
 #[cfg(not(no_original))]
@@ -16,6 +16,7 @@ pub mod disorder;
 pub mod generate;
 pub mod lent;
 pub mod look_up;
+pub mod merge;
 #[cfg(not(no_original))]
 pub mod month;
 #[cfg(not(no_original))]

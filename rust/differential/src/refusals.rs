@@ -6,8 +6,8 @@ use crate::table::{Position, coordinates};
 
 const ROW_BYTES: usize = 32;
 const STATE_BYTES: usize = 16;
-const MOST_ROWS: usize = 1024;
-const FARTHEST: i32 = 1_000_000;
+pub const MOST_ROWS: usize = 1024;
+pub const FARTHEST: i32 = 1_000_000;
 const HIGHEST_LEVEL: u8 = 15;
 
 /// What a refusal's number is multiplied by; a lower answer is no refusal.
@@ -131,7 +131,7 @@ pub fn check(profile: &[u8], table: &[u8]) -> Checked {
     refuse(&ORDER, &Asked::new(profile, table))
 }
 
-fn at_no_row(fault: bool) -> Option<usize> {
+pub fn at_no_row(fault: bool) -> Option<usize> {
     fault.then_some(0)
 }
 

@@ -31,3 +31,13 @@ pub fn coordinates(row: &[u8]) -> Position {
 pub fn moved(from: Position, step: Position) -> Position {
     [0, 1, 2].map(|axis| from[axis] + step[axis])
 }
+
+/// The step back.
+pub fn back(step: Position) -> Position {
+    step.map(|along| -along)
+}
+
+/// The row a step away.
+pub fn moved_row(row: &Row, step: Position) -> Row {
+    row.with_position(moved(row.position(), step))
+}
