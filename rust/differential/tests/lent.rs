@@ -4,7 +4,8 @@ use std::fmt::Debug;
 
 use differential::generate::{BENCH_PROFILE, Case};
 use differential::lent::{Entry, GUARDS, Lent};
-use differential::probe::probe_support_issues;
+use differential::merge::OUT_BYTES;
+use differential::probe::{probe_support_issues, redstone_merge};
 use redstone::{Columns, Kind, Row};
 
 /// Writes each of these values for an entry to every place in and around buffers of some lengths.
@@ -73,4 +74,21 @@ fn a_call_that_writes_16_bits_outside_is_noticed() {
     assert_eq!(listed_outside(0, 0), []);
     assert_eq!(listed_outside(1, 0), [(-1, 0)]);
     assert_eq!(listed_outside(0, 2), [(1, 1), (2, 2)]);
+}
+
+/// The same of two tables in one that fill the output.
+fn merged_outside(late: usize, early: usize) -> Vec<(isize, u16)> {
+    let [first, second] =
+        [0..512, 512..1_024].map(|places| redstone::table(places.map(|x| Row::new(Kind::Solid, [x, 0, 0]))));
+    let mut out = Lent::untouched(OUT_BYTES - late - early);
+    let lent = &mut out.with_guards()[GUARDS - late..][..OUT_BYTES];
+    assert_eq!(redstone_merge(&first, &second, 0, 0, 0, lent), 1_024);
+    out.returned().outside
+}
+
+#[test]
+fn a_merge_that_writes_outside_is_noticed() {
+    assert_eq!(merged_outside(0, 0), []);
+    assert_eq!(merged_outside(1, 0), [(-1, 0)]);
+    assert_eq!(merged_outside(0, 2), [(32_766, 0), (32_767, 0)]);
 }
