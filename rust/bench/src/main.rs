@@ -1,8 +1,10 @@
-//! Times the proved calls, and then the program `month`, beside the original on the same tables, and prints the medians as
-//! markdown tables.
+//! Times the proved calls, and then the program `month`, beside the original on the same tables, and two tables in one
+//! beside an ordered map, and prints the medians as markdown tables.
 
 #[cfg(not(no_original))]
 mod calls;
+#[cfg(not(no_original))]
+mod merge;
 #[cfg(not(no_original))]
 mod month;
 #[cfg(not(no_original))]
@@ -43,6 +45,13 @@ fn main() {
         println!("| {} | {tables} | {rates} |", case.sort);
     }
     println!("\n{NOTES_ON_MONTH}");
+    println!("\n| tables | ordered map | proved | ordered map / proved | runs |");
+    println!("|---|---:|---:|---:|---:|");
+    for (tables, merge) in merge::calls() {
+        merge::assert_sides_agree(&merge);
+        println!("| {tables} | {} |", merge::medians_of(&merge));
+    }
+    println!("\n{NOTES_ON_MERGE}");
 }
 
 #[cfg(not(no_original))]
@@ -66,3 +75,10 @@ Each figure is the number of tables in a stream, divided by the median time of t
 pipe, and its time is from its start to its end, with the reading and the checks. The original ran by turns with it, in a
 loop that took the fresh devices, settled and counted, over a world that was made before the clock started. Both gave the
 same figures before they were timed.";
+
+#[cfg(not(no_original))]
+const NOTES_ON_MERGE: &str = "\
+Each figure is the median time of one call, by turns with the other side in one process. The ordered map is a `BTreeMap` of
+Rust, into which each row of both tables is put at its position, and out of which the rows are written in order. It tells a
+clash, and tests nothing else; the proved call tests every row of both tables, too. Both wrote the same bytes before they
+were timed.";

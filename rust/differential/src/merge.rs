@@ -20,8 +20,8 @@ pub use generated::{Generated, generated};
 pub use misreadings::{MISREADINGS, Misreading};
 pub use reading::{ORDER, OUT_BYTES, READING, Reading};
 pub use trials::{
-    clashes, empty_tables, ends, far_offsets, fillings, given_off_ground, most_rows, offsets, out_lengths,
-    single_bytes, small_pairs,
+    Layout, clashes, empty_tables, ends, far_offsets, fillings, given_off_ground, most_rows, of_counts,
+    offsets, out_lengths, single_bytes, small_pairs,
 };
 
 /// A call.

@@ -2,7 +2,7 @@
 
 use redstone::{FARTHEST, ROW_BYTES, Row, table};
 
-use super::trials::of_counts;
+use super::trials::{Layout, of_counts};
 use super::{Merge, OUT_BYTES};
 use crate::damage::damaged;
 use crate::generate::{self, BENCH_PROFILE_WITH_BULB, Case};
@@ -152,7 +152,7 @@ fn about_the_most(random: &mut Random) -> Merge {
     let first = shared + random.below(together - shared + 1);
     let second = together - first + shared;
     let offset = [(); 3].map(|()| random.within(-3, 3));
-    of_counts([first, second, shared], random.below(3), offset)
+    of_counts([first, second, shared], random.pick(&Layout::ALL), offset)
 }
 
 fn damage_table(random: &mut Random, table: &mut Vec<u8>) {

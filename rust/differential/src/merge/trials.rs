@@ -157,15 +157,26 @@ const COUNTS: [Counts; 24] = [
     [1024, 1024, 0],
 ];
 
-/// Gives the places of each table's rows.
-type Layout = fn(Counts) -> [Vec<i32>; 2];
+/// How the second table's rows stand to the first's.
+#[derive(Clone, Copy, Debug)]
+pub enum Layout {
+    After,
+    Before,
+    ByTurns,
+}
 
-/// The second table's rows after the first's, before them, and by turns with them.
-const LAYOUTS: [Layout; 3] = [
-    |[first, second, shared]| [places(0, first), places(first - shared, second)],
-    |[first, second, shared]| [places(second - shared, first), places(0, second)],
-    by_turns,
-];
+impl Layout {
+    pub const ALL: [Self; 3] = [Self::After, Self::Before, Self::ByTurns];
+
+    /// The places of each table's rows.
+    fn places(self, [first, second, shared]: Counts) -> [Vec<i32>; 2] {
+        match self {
+            Self::After => [places(0, first), places(first - shared, second)],
+            Self::Before => [places(second - shared, first), places(0, second)],
+            Self::ByTurns => by_turns([first, second, shared]),
+        }
+    }
+}
 
 fn places(from: usize, rows: usize) -> Vec<i32> {
     (from..from + rows).map(|place| place as i32).collect()
@@ -180,14 +191,14 @@ fn by_turns([first, second, shared]: Counts) -> [Vec<i32>; 2] {
 }
 
 /// A call on tables of so many rows, at an offset.
-pub fn of_counts(counts: Counts, layout: usize, offset: Position) -> Merge {
-    let [first, second] = LAYOUTS[layout](counts);
+pub fn of_counts(counts: Counts, layout: Layout, offset: Position) -> Merge {
+    let [first, second] = layout.places(counts);
     Merge::new(blocks(first), blocks_from(offset, second), offset)
 }
 
 /// About as many rows as a table may have, with shared ones and without.
 pub fn most_rows() -> impl Iterator<Item = Trial> {
-    let layouts = COUNTS.iter().flat_map(|counts| [0, 1, 2].map(|layout| (*counts, layout)));
+    let layouts = COUNTS.iter().flat_map(|counts| Layout::ALL.map(|layout| (*counts, layout)));
     let calls = layouts.flat_map(|(counts, layout)| [[0; 3], OFFSET].map(|offset| (counts, layout, offset)));
     calls.map(|(counts, layout, offset)| {
         let [first, second, shared] = counts;
@@ -269,7 +280,9 @@ pub fn single_bytes() -> impl Iterator<Item = Merge> {
 fn sizes() -> impl Iterator<Item = (Merge, usize)> {
     let counts: [Counts; 6] =
         [[0, 0, 0], [1, 0, 0], [2, 3, 1], [512, 511, 0], [512, 512, 0], [1024, 1024, 1024]];
-    counts.into_iter().map(|counts| (of_counts(counts, 0, OFFSET), counts[0] + counts[1] - counts[2]))
+    counts
+        .into_iter()
+        .map(|counts| (of_counts(counts, Layout::After, OFFSET), counts[0] + counts[1] - counts[2]))
 }
 
 /// An output of every length about the right one, and of some others.
