@@ -17,9 +17,9 @@ const OFFSET: Position = [5, -7, 11];
 pub fn calls() -> [(&'static str, Merge); 4] {
     let call = |counts, layout| of_counts(counts, layout, OFFSET);
     [
-        ("16 and 16 rows, none shared, the second's after the first's", call([16, 16, 0], Layout::After)),
-        ("512 and 512 rows, none shared, the second's after the first's", call([512, 512, 0], Layout::After)),
-        ("511 and 512 rows, none shared, by turns", call([511, 512, 0], Layout::ByTurns)),
+        ("16 and 16 rows, apart", call([16, 16, 0], Layout::After)),
+        ("512 and 512 rows, apart", call([512, 512, 0], Layout::After)),
+        ("511 and 512 rows, by turns", call([511, 512, 0], Layout::ByTurns)),
         ("1,024 and 1,024 rows, all shared", call([1024, 1024, 1024], Layout::After)),
     ]
 }
