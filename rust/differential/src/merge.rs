@@ -40,9 +40,7 @@ pub struct Out {
     pub filling: u8,
 }
 
-/// Where the buffers of a call stand in its answer. Those that it only reads are there too.
-pub const FIRST: usize = 0;
-pub const SECOND: usize = 1;
+/// Where the output stands among the buffers of an answer, after both tables.
 pub const OUT: usize = 2;
 
 impl Merge {

@@ -6,10 +6,11 @@ use std::fmt::{self, Display, Formatter};
 use differential::compare::{Answer, Answers};
 use differential::generate::{self, BENCH_PROFILE, BENCH_PROFILE_WITH_BULB, row_lines};
 use differential::merge::{
-    Arrangement, MISREADINGS, Merge, ORDER, OUT, Proved, READING, Reading, Trial, all_combinations, clashes,
-    empty_tables, ends, far_offsets, fillings, generated, given_off_ground, most_rows, of_rows, offsets,
-    out_lengths, single_bytes, small_pairs,
+    Arrangement, MISREADINGS, Merge, ORDER, OUT, OUT_BYTES, Proved, READING, Reading, Trial,
+    all_combinations, clashes, empty_tables, ends, far_offsets, fillings, generated, given_off_ground,
+    most_rows, of_rows, offsets, out_lengths, single_bytes, small_pairs,
 };
+use differential::probe::redstone_merge;
 use differential::random::Random;
 use differential::refusals::check;
 use differential::suite::{print, setting};
@@ -312,9 +313,13 @@ fn any_table(seed: u64) -> Vec<u8> {
     generate::case(seed).table
 }
 
+/// Also where both tables are lent at one place.
 #[test]
 fn a_table_and_itself_or_nothing_is_the_table() {
     for table in (0..3_000).map(any_table) {
+        let mut out = [0; OUT_BYTES];
+        assert_eq!(redstone_merge(&table, &table, 0, 0, 0, &mut out) as usize, table.len() / ROW_BYTES);
+        assert!(out.starts_with(&table), "{}", row_lines(&table));
         let is_table =
             |second: &[u8], offset| merged(&Merge::new(&table[..], second, offset)) == Some(table.clone());
         assert!(is_table(&table, [0; 3]) && is_table(&[], [3, -2, 1]), "{}", row_lines(&table));

@@ -1,7 +1,5 @@
 //! Wrong readings of Change 6, which the trials must tell from the right one.
 
-use std::collections::BTreeMap;
-
 use redstone::{Kind, ROW_BYTES};
 
 use super::Merge;
@@ -86,10 +84,7 @@ pub const MISREADINGS: [Misreading; 82] = [
     misreading("the second's rows are in the result as they were", |reading| {
         reading.result = |asked| {
             let second = placed(&asked.merge.second, [0; 3]);
-            let alone = second_alone(asked);
-            let kept = asked.second.iter().zip(second).filter(|(row, _)| alone.contains(row));
-            let rows: BTreeMap<_, _> = asked.first.iter().copied().chain(kept.map(|(_, row)| row)).collect();
-            rows.into_iter().collect()
+            union(&Asked { merge: asked.merge, first: asked.first.clone(), second })
         };
     }),
     // What is written and answered.
