@@ -228,7 +228,7 @@ fn misreadings_are_reported() {
     print(&format!("merge: {} wrong readings reported", MISREADINGS.len()));
 }
 
-/// So many calls are compared, or more where DIFF_CALLS says so; 1,000,000 take some minutes.
+/// So many calls are compared, or more where DIFF_CALLS says so; 1,000,000 take half a minute.
 const CALLS: u64 = 50_000;
 
 /// Every refusal is among the answers, and every sort of pair.
