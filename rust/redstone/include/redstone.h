@@ -1,9 +1,10 @@
 /*
  * The proved redstone calls, for C on x86-64 Linux: link libredstone.a, which `rt staticlib redstone` builds.
  *
- * Buffers. Each is a pointer and then its length in entries, and may have any length and content. No two buffers of a
- * call may overlap. A pointer must not be null, not even with length 0. Entries are bytes, but for the rows of
- * redstone_supports, which have 16 bits: that buffer stands at an even address.
+ * Buffers. Each is a pointer and then its length in entries, and may have any length and content. Buffers that are only
+ * read may be one or overlap, as redstone_merge's two tables; a buffer that is written may overlap no other. A pointer
+ * must not be null, not even with length 0. Entries are bytes, but for the rows of redstone_supports, which have 16 bits:
+ * that buffer stands at an even address.
  *
  * Threads and stack. There are no globals and nothing is allocated or kept: any thread may call at any time, over
  * buffers that no other thread writes meanwhile. 48 KiB of free stack are enough for every call.

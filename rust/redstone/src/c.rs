@@ -53,7 +53,8 @@ macro_rules! calls {
                 fn $call($($c)*) -> u32;
             }
             // SAFETY: each pointer goes with the length of the slice that it is of. The call is proved to stay inside
-            // the lent slices and to write only those that are lent to be written, and it keeps none of them.
+            // the lent slices and to write only those that are lent to be written, which overlap no other, since they
+            // are borrowed mutably; and it keeps none of them.
             unsafe { $call($($lent)*) }
         }
     };
