@@ -26,8 +26,9 @@ impl Rounds {
 pub struct Refusal {
     /// The number of the refusal, from 1 on.
     pub number: u32,
-    /// The first row at fault, in the table that [`Fault::table`] names. 0 where the refusal is not about a row, where a
-    /// state or device column is of a wrong length, and for 11 and 12, whose rows the fault has.
+    /// The first row at fault. Of a merge it is in the table that [`Fault::table`] names; in a state or device column it
+    /// has the number of the table's row. 0 where the refusal is not about a row, where a state or device column is of a
+    /// wrong length, and for 11 and 12, whose rows the fault has.
     pub row: usize,
     /// What exactly is wrong.
     pub fault: Fault,

@@ -235,12 +235,14 @@ impl Fault {
         }
     }
 
-    /// The table at fault: of a refusal by [`merge`](crate::merge) the number and the row do not tell. `None` where it is no
-    /// single table.
+    /// The table that the fault is about: of a refusal by [`merge`](crate::merge) the number and the row do not tell. `None`
+    /// where it is about another input, such as a state or an offset by itself, or about two tables together.
     #[must_use]
     pub fn table(&self) -> Option<WhichTable> {
-        let mut fault = *self;
-        fault.table_mut().copied()
+        match *self {
+            Self::OffGround { .. } => Some(WhichTable::Second),
+            mut fault => fault.table_mut().copied(),
+        }
     }
 
     /// The same fault of another table.

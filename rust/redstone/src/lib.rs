@@ -82,7 +82,7 @@
 //!
 //! # Refusals
 //!
-//! A call reads any bytes of any length. What it cannot settle it refuses, and then it has written to none of the
+//! A call reads any bytes of any length. What it cannot do it refuses, and then it has written to none of the
 //! buffers lent to it. [`Refusal`] has the number and the row that the call answered, and a [`Fault`] that says what
 //! exactly is wrong and what would be right; of two tables that are merged also in which of them it is.
 //!

@@ -246,7 +246,7 @@ const FAULTS: [(Change, u32, Option<WhichTable>, usize); 15] = [
     (|input| input.second[COMPARATOR * ROW_BYTES + 16] = 16, 10, SECOND, COMPARATOR),
     (|input| input.room -= 1, 7, None, 0),
     (|input| input.offset[1] = FARTHEST_OFFSET + 1, 11, None, 0),
-    (|input| input.offset[0] = FARTHEST - 3, 11, None, 0),
+    (|input| input.offset[0] = FARTHEST - 3, 11, SECOND, 0),
     (|input| input.second[12] = 2, 12, None, 0),
     (add_many, 3, None, 0),
 ];
