@@ -30,6 +30,15 @@ static uint32_t merge(int32_t dx) {
     return redstone_merge(first, sizeof first, second, sizeof second, dx, 0, 0, both, sizeof both);
 }
 
+/* Whether an answer is a refusal, which is written then. */
+static int refused(uint32_t answer) {
+    if (REDSTONE_REFUSAL(answer) == 0) {
+        return 0;
+    }
+    printf("refusal %u, row %u\n", REDSTONE_REFUSAL(answer), REDSTONE_ROW(answer));
+    return 1;
+}
+
 int main(void) {
     put(first, 0, 0, 0, REDSTONE_KIND_SOLID);
     put(first, 1, 1, 0, REDSTONE_KIND_SOLID);
@@ -43,17 +52,20 @@ int main(void) {
 
     /* The second room is moved until its block is at the first one's. */
     uint32_t rows = merge(1);
+    if (refused(rows)) {
+        return 1;
+    }
     printf("%d rows and %d are %u\n", ROWS, ROWS, rows);
     size_t table_length = REDSTONE_ROW_BYTES * rows, state_length = REDSTONE_STATE_BYTES * rows;
-    redstone_fresh(profile, sizeof profile, both, table_length, state, state_length, signal, rows, weak, rows, strong,
-                   rows);
-    redstone_tick(profile, sizeof profile, both, table_length, state, state_length, 0, 1, signal, rows, weak, rows,
-                  strong, rows);
+    if (refused(redstone_fresh(profile, sizeof profile, both, table_length, state, state_length, signal, rows, weak,
+                               rows, strong, rows)) ||
+        refused(redstone_tick(profile, sizeof profile, both, table_length, state, state_length, 0, 1, signal, rows, weak,
+                              rows, strong, rows))) {
+        return 1;
+    }
     /* The lamp is at 3,0,0, the last row. */
     printf("tick 1: lamp %u\n", strong[rows - 1]);
 
     /* Not moved, the repeater is where the first room has that block. */
-    uint32_t answer = merge(0);
-    printf("refusal %u, row %u\n", REDSTONE_REFUSAL(answer), REDSTONE_ROW(answer));
-    return 0;
+    return !refused(merge(0));
 }
