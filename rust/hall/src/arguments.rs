@@ -109,11 +109,17 @@ impl Arguments {
 
     /// The two files that are named.
     pub(crate) fn two_files(&self) -> Result<[&OsStr; 2], Failure> {
+        if self.operands.is_empty() {
+            return Err(Failure::sentence(
+                "no file is named: give two, of which one may be - for standard input",
+            ));
+        }
         match self.files()? {
             [first, second] => Ok([first, second]),
             [_, _, third, ..] => {
                 let third = third.to_string_lossy();
-                Err(Failure::sentence(format!("{third} is one word too many: give two names, and no third")))
+                let meant = meant_by(&third).unwrap_or_else(|| "give two names, and no third".to_owned());
+                Err(Failure::sentence(format!("{third} is one word too many: {meant}")))
             }
             _ => Err(Failure::sentence("one file alone is named: give a second one after it")),
         }
@@ -125,8 +131,7 @@ impl Arguments {
         let (text, what) = (value.to_string_lossy(), "an offset dx,dy,dz");
         let word = Word { line: 1, column: 1, text: &text };
         // What 32 bits hold is for the call to refuse. Of all else the error has what it may be.
-        let offset = word.numbers(i32::MIN..=i32::MAX, what);
-        offset
+        word.position()
             .or_else(|_| word.numbers(-FARTHEST_OFFSET..=FARTHEST_OFFSET, what))
             .map_err(|error| Failure::sentence(format!("{} {text}: {}", BY.name, error.message())))
     }
@@ -152,4 +157,10 @@ impl Arguments {
         let ticks = self.number(&TICKS, 0..=MOST_SHOWN_TICKS)?.unwrap_or(DEFAULT_TICKS);
         Ok(Run::new(hall, ticks)?)
     }
+}
+
+/// What is asked about a word of three numbers before which `--by` was forgotten.
+pub(crate) fn meant_by(text: &str) -> Option<String> {
+    let word = Word { line: 1, column: 1, text };
+    word.position().is_ok().then(|| format!("did you mean {} {text}?", BY.name))
 }

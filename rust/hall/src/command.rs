@@ -8,7 +8,7 @@ use redstone::Refusal;
 use redstone_text::nearest;
 
 use crate::Refused;
-use crate::arguments::Arguments;
+use crate::arguments::{Arguments, meant_by};
 use crate::commands::COMMANDS;
 use crate::output::unwritten;
 
@@ -138,6 +138,10 @@ impl Command {
             return Ok(choice);
         }
         let start = format!("{name} is not an option of `hall {}`", self.name);
+        let takes_offset = self.options.iter().any(|choice| choice.name == BY.name);
+        if let Some(meant) = meant_by(name).filter(|_| takes_offset) {
+            return Err(Failure::sentence(format!("{start}: {meant}")));
+        }
         Err(Failure::sentence(match nearest(name, self.options.iter().map(|choice| choice.name)) {
             Some((nearest, true)) => format!("{start}: did you mean {nearest}?"),
             Some((_, false)) => format!("{start}: see `hall {} --help`", self.name),
