@@ -1,9 +1,10 @@
 //! `hall merge`: two halls in one.
 
+use std::collections::{BTreeMap, BTreeSet};
 use std::fmt::Write as _;
 use std::io::Write;
 
-use redstone::{Circuit, Fault, Kind, MOST_ROWS, Refusal, clashes, merged};
+use redstone::{Fault, Kind, MOST_ROWS, Refusal, clashes, merged, rows};
 use redstone_text::{Table, position_text, row_text};
 
 use crate::arguments::Arguments;
@@ -49,7 +50,7 @@ fn merged_text(first: &Hall, second: &Hall, offset: Position) -> Result<String, 
     let profile = one_profile(first, second)?;
     let table = merged(first.fresh.table(), second.fresh.table(), offset)
         .map_err(|refusal| Failure::Sentence(sentence(&refusal, first, second, offset)))?;
-    let rows = Circuit::from_table(profile, table)?.blocks().map(|block| block.row).collect();
+    let rows = rows(&table).map_err(|fault| Failure::sentence(fault.to_string()))?;
     let table = Table { profile: profile.to_vec(), rows };
     Ok(format!("{table}{}", sections(first, second, offset)?))
 }
@@ -118,13 +119,10 @@ fn clashes_text(first: &Hall, second: &Hall, offset: Position) -> String {
 
 /// The lines with switches and expectations of both halls, but for those about a whole table.
 fn sections(first: &Hall, second: &Hall, offset: Position) -> Result<String, Failure> {
-    let moved: Vec<_> = second.switches.iter().map(|switch| switch.moved(offset)).collect();
-    check_switches(first, second, &moved)?;
     let own = lines(first, &first.switches, [0; 3]);
-    // What the first hall sets as well is set by its own lines.
-    let not_set = moved.into_iter().filter(|switch| setting(&first.switches, switch).is_none());
-    let mut others = lines(second, &not_set.collect::<Vec<_>>(), offset);
-    others.retain(|line| !own.contains(line));
+    let mut others = lines(second, &other_switches(first, second, offset)?, offset);
+    let known: BTreeSet<_> = own.iter().collect();
+    others.retain(|line| !known.contains(line));
     let title = format!("{}, moved by {}", second.name, position_text(offset));
     Ok(section(&first.name, &own) + &section(&title, &others))
 }
@@ -145,29 +143,35 @@ fn section(title: &str, lines: &[String]) -> String {
     format!("\n# {}\n{}\n", title.replace(char::is_control, "?"), lines.join("\n"))
 }
 
-/// What switches set the same block to at the same tick as another: the last of them counts.
-fn setting(switches: &[Switch], like: &Switch) -> Option<bool> {
-    let is_like = |switch: &&Switch| (switch.tick, switch.position) == (like.tick, like.position);
-    switches.iter().rfind(is_like).map(|switch| switch.on)
+/// The switches of the second hall, moved, but for those that the first hall's own lines set as well. A block that one hall
+/// sets on and the other off at the same tick is refused.
+fn other_switches(first: &Hall, second: &Hall, offset: Position) -> Result<Vec<Switch>, Failure> {
+    let mut moved: Vec<_> = second.switches.iter().map(|switch| switch.moved(offset)).collect();
+    let (own, others) = (settings(&first.switches), settings(&moved));
+    let is_unlike = |switch: &&Switch| own.get(&key(switch)).is_some_and(|on| others[&key(switch)] != *on);
+    if let Some(switch) = moved.iter().find(is_unlike) {
+        let row = find(&first.rows, switch.position).map(|row| block_name(&first.rows[row]));
+        let block = row.unwrap_or_else(|| position_text(switch.position));
+        let [one, other] = if own[&key(switch)] { ["on", "off"] } else { ["off", "on"] };
+        return Err(Failure::sentence(format!(
+            "at tick {} {} sets {block} {one}, and {} sets the same block {other}: take one of the two lines out",
+            switch.tick, first.name, second.name
+        )));
+    }
+    moved.retain(|switch| !own.contains_key(&key(switch)));
+    Ok(moved)
 }
 
-/// That no block is set on by one hall and off by the other, moved, at the same tick.
-fn check_switches(first: &Hall, second: &Hall, moved: &[Switch]) -> Result<(), Failure> {
-    for switch in moved {
-        let (one, other) = (setting(&first.switches, switch), setting(moved, switch));
-        if one.is_some() && one != other {
-            let row = find(&first.rows, switch.position).map(|row| block_name(&first.rows[row]));
-            let block = row.unwrap_or_else(|| position_text(switch.position));
-            let word = |on| if on == Some(true) { "on" } else { "off" };
-            return Err(Failure::sentence(format!(
-                "at tick {} {} sets {block} {}, and {} sets the same block {}: take one of the two lines out",
-                switch.tick,
-                first.name,
-                word(one),
-                second.name,
-                word(other)
-            )));
-        }
+/// What switches set each block to at each tick: the last of a tick counts.
+fn settings(switches: &[Switch]) -> BTreeMap<(u32, Position), bool> {
+    let mut settings = BTreeMap::new();
+    for switch in switches {
+        settings.insert(key(switch), switch.on);
     }
-    Ok(())
+    settings
+}
+
+/// The tick and the position at which a switch sets.
+fn key(switch: &Switch) -> (u32, Position) {
+    (switch.tick, switch.position)
 }

@@ -193,6 +193,33 @@ fn a_block_that_both_halls_set_is_set_alike() {
     }
 }
 
+/// Both halls set one lever and expect its signal, at tick after tick.
+#[test]
+fn many_lines_of_both_are_merged() {
+    const LINES: usize = 20_000;
+    // What is set and expected of the lever at x,1,0, at the ticks that are multiples of a step and good.
+    let lines = |x: i32, step: usize, is_good: fn(&usize) -> bool| -> String {
+        let ticks: Vec<_> = (1..=LINES).map(|number| step * number).filter(is_good).collect();
+        let is_on = |tick: usize| tick % 4 < 2;
+        let switches = ticks.iter().map(|&tick| {
+            let setting = if is_on(tick) { "on" } else { "off" };
+            format!("switch tick {tick} {x},1,0 {setting}\n")
+        });
+        let expectations = ticks.iter().map(|&tick| {
+            let level = if is_on(tick) { 15 } else { 0 };
+            format!("expect tick {tick} signal {x},1,0 = {level}\n")
+        });
+        switches.chain(expectations).collect()
+    };
+    let (own, others) = (lines(0, 2, |_| true), lines(0, 3, |tick| tick % 2 != 0 || *tick > 2 * LINES));
+    let second = format!("-1,1,0 Lever\n{}", lines(-1, 3, |_| true));
+    let (text, said) = written("merge_many", &format!("{LEVER}{own}"), &second, &["--by", "1,0,0"]);
+    let expected =
+        format!("blocks=1\n{LEVER}\n# standard input\n{own}\n# second.hall, moved by 1,0,0\n{others}");
+    assert!(text == expected, "{} lines, {} expected", text.lines().count(), expected.lines().count());
+    assert_eq!(said, "");
+}
+
 #[test]
 fn a_clash_is_told_with_both_rows() {
     let first = "# Two blocks.\n0,0,0 Solid\n5,0,0 Solid shape=glass\n";
