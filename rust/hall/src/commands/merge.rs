@@ -24,7 +24,9 @@ that both have is written once; they are to have the same block there, with the 
 profile, but the bulb's byte may be missing in one.
 Switches and expectations are written, too, those of the second moved as its rows are, and a line that both have once. A
 block that both set at one tick is to be set alike. Left out are comments, and what is expected of rounds and blocks, since
-that is about a whole table. What a room expects by itself may not be so in the whole: see `hall check`.",
+that is about a whole table. What a room expects by itself may not be so in the whole: see `hall check`.
+As with other commands, -o writes over an older file of that name, and over the lines that were added to it by hand: keep
+such lines in the rooms, or write the whole to another name.",
     options: &[&BY, &PROFILE, &OUT],
     run,
 };
