@@ -1,22 +1,11 @@
 // The bench profile, and what the tables of the book's tests are built with. Fields that are not named are 0, and no coordinate is below 0.
 use blocks::kind;
+use words::write_word;
 use world::row::WIDTH;
 ghost use mathlib.Core.Path.{_≡_};
-ghost use Prim.Native.Nat.{_+_, _<_};
-ghost use lib.ListN.{length};
-ghost use Rattle.book.specs.Tables.{putNumber, putBlock, putLine};
+ghost use Rattle.book.specs.Tables.{putBlock, putLine};
 
 pub const BENCH_PROFILE: [u8; 13] = [0, 31, 1, 0, 0, 0, 0, 0, 0, 0, 31, 1, 0];
-
-// Puts a number into three bytes, low byte first.
-fn put_number(t: &mut [u8], at: usize, n: u32)
-    requires { ⌜ at + 2 < length (now t) ⌝ }
-    ensures { λ _. ⌜ now (t .exit) ≡ putNumber (now (t .entry)) at n ⌝ }
-{
-    t[at] = (n % 256) as u8;
-    t[at + 1] = (n / 256 % 256) as u8;
-    t[at + 2] = (n / 65536 % 256) as u8;
-}
 
 // Puts a block of a kind at (x, y, 0) into a row of the table, if it has that row.
 pub fn put_block(t: &mut [u8], row: usize, x: u32, y: u32, kind: u8)
@@ -24,8 +13,8 @@ pub fn put_block(t: &mut [u8], row: usize, x: u32, y: u32, kind: u8)
 {
     if row < t.len() / WIDTH {
         let start = row * WIDTH;
-        put_number(t, start, x);
-        put_number(t, start + 4, y);
+        write_word(t, start, x);
+        write_word(t, start + 4, y);
         t[start + 12] = kind;
     }
 }

@@ -10,14 +10,14 @@ use Rattle.book.proofs.table.put_block.Tie as tie
 mul-start : tie.Need-mul-start
 mul-start c = search needs
 
-put-number-requires : tie.Need-put-number-requires
-put-number-requires c κs = search needs
+write-word-requires : tie.Need-write-word-requires
+write-word-requires c κs = search needs
 
-add-put-number : tie.Need-add-put-number
-add-put-number c = search needs
+add-write-word : tie.Need-add-write-word
+add-write-word c = search needs
 
-put-number-requires-2 : tie.Need-put-number-requires-2
-put-number-requires-2 c κs = search needs
+write-word-requires-2 : tie.Need-write-word-requires-2
+write-word-requires-2 c κs = search needs
 
 add-t : tie.Need-add-t
 add-t c = search needs
@@ -27,8 +27,8 @@ slice-write-t c = search needs
 
 same-length : tie.Need-same-length
 same-length c =
-    let first = c .before .before .before .before .before .before .put-number in
-    let second = c .before .before .put-number2 in
+    let first = c .before .before .before .before .before .before .write-word in
+    let second = c .before .before .write-word2 in
     length-set (second .last .0) _ _ ∙ second .kept .0 ∙ first .kept .0
 
 returns : tie.Need-returns
@@ -36,7 +36,7 @@ unfolding putBlock
 returns c =
     let first = c .before .before .before .before .before .before in
     let inside = first .before .before .if1 .taken in
-    rw (lt-ltb _ _ inside, c .before .before .put-number2 .ensures, first .put-number .ensures)
+    rw (lt-ltb _ _ inside, c .before .before .write-word2 .ensures, first .write-word .ensures)
 
 returns-2 : tie.Need-returns-2
 unfolding putBlock
@@ -47,9 +47,9 @@ put-block-spec =
     tie.close
     (tie.spec
     mul-start
-    put-number-requires
-    add-put-number
-    put-number-requires-2
+    write-word-requires
+    add-write-word
+    write-word-requires-2
     add-t
     slice-write-t
     same-length
