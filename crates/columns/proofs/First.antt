@@ -2,7 +2,7 @@
 -- Assumes nothing.
 use mathlib.Core.Path.{_≡_, refl, ap, sym, _∙_}
 use mathlib.Core.Logic.{_⊎_, inl, inr, ⊎-elim}
-use mathlib.Core.Bool.{Bool, true, false, _&&_, true≢false}
+use mathlib.Core.Bool.{Bool, true, false, true≢false}
 use Prim.Native.Nat.{ℕ, zero, suc, _+_, _-_, _≤_, _<_}
 use native.Mathlib.Nat.{le-refl, eq-or-lt-of-le, not-suc-le-zero, le-of-suc-le-suc}
 use native.Mathlib.Numerals.{add-one}
@@ -114,3 +114,8 @@ all-at f n h k l = go (f k) refl
     go : (b : Bool) → f k ≡ b → f k ≡ true
     go true e = e
     go false e = absurd (true≢false (sym h ∙ all-fails f n k l e))
+
+-- and what holds of each holds of all below n
+pub at-all : (f : ℕ → Bool) (n : ℕ) → ((k : ℕ) → k < n → f k ≡ true) → allBelow f n ≡ true
+at-all f zero h = refl
+at-all f (suc n) h = rw (at-all f n (λ k l. h k (omega arith)), h n (le-refl _)) refl

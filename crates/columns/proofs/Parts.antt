@@ -1,13 +1,13 @@
 -- Laws of rows of one width that stand one after the other, and of the loop that lends each to be written.
 -- Assumes nothing.
-use mathlib.Core.Path.{_≡_, refl, ap, ap₂, sym, _∙_}
-use mathlib.Core.List.{List, [], _∷_, _++_, append-assoc, append-nil}
-use Prim.Native.Nat.{ℕ, zero, suc, _+_, _*_, _-_, _≤_, _<_, zero-le}
-use native.Mathlib.Nat.{zero-mul, suc-mul, add-zero, not-suc-le-zero, mul-le-mul-right, zero-add}
+use mathlib.Core.Path.{_≡_, ap, sym, _∙_}
+use mathlib.Core.List.{List, [], _++_, append-assoc, append-nil}
+use Prim.Native.Nat.{ℕ, zero, suc, _+_, _*_, _≤_, _<_, zero-le}
+use native.Mathlib.Nat.{zero-mul, suc-mul, add-zero, not-suc-le-zero, zero-add}
 use native.Mathlib.Numerals.{add-one}
 use native.Mathlib.Omega.{arith}
-use lib.ListN.{length, getD, take, drop, length-append, length-take, length-drop, List·getD-append}
-use lib.Seq.{length-take-le, take-at, drop-at, drop-drop, getD-take, getD-drop, getD-append-add, take-length, drop-length}
+use lib.ListN.{length, getD, drop, length-append, length-drop}
+use lib.Seq.{length-take-le, take-at, drop-at, drop-drop, getD-take, getD-drop, drop-length}
 use borrow.Rule.Slice.PartMut.{putMid}
 use Rattle.columns.specs.Column.{part, concatRowsFrom, concatRows}
 

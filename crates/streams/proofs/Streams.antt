@@ -3,20 +3,21 @@
 use mathlib.Core.Path.{_≡_, refl, ap, sym, _∙_}
 use mathlib.Core.Logic.{_⊎_, inl, inr, by-cases}
 use mathlib.Core.List.{List, [], _∷_, _++_}
-use Prim.Native.Nat.{ℕ, zero, suc, _+_, _-_, _*_, _≤_, _<_, zero-le}
+use Prim.Native.Nat.{ℕ, zero, suc, _+_, _-_, _≤_, _<_, zero-le}
 use native.Mathlib.Decide.{decLt}
 use native.Mathlib.Nat.{le-refl, sub-zero}
 use native.Mathlib.Omega.{arith}
 use lib.ListN.{length, take, drop, length-append, length-drop, take-append-drop, List·getD-append}
 use lib.Seq.{length-take-le, take-append-le, drop-append-le}
-use borrow.Author.Tests.{eq-eqb, ne-eqb, lt-ltb, le-ltb}
+use borrow.Author.Tests.{ne-eqb, lt-ltb, le-ltb}
 use Rattle.columns.specs.Column.{Bytes}
+use Rattle.columns.proofs.Members.{none-in}
 use Rattle.words.specs.Words.{word}
 use Rattle.streams.specs.declared.Ending.{Ending}
 use Rattle.streams.specs.declared.Ending.the-variants.{Whole, Cut, Count}
 use Rattle.streams.specs.declared.Front.{Front}
 use Rattle.streams.specs.declared.Front.the-variants.{Table, Ends}
-use Rattle.streams.specs.Stream.{tableBytes, bytesToRead, firstTable, laterTables, openFront, fullEnding, frontOf, Stream, endsAs, led, goOn, readWithin, mostTables, streamOf}
+use Rattle.streams.specs.Stream.{tableBytes, bytesToRead, firstTable, laterTables, openFront, fullEnding, frontOf, Stream, endsAs, led, goOn, readWithin}
 
 -- ---- what stands at the front of s
 
@@ -41,10 +42,6 @@ pub record IsBroken (s : Bytes) : Type 0 where
 pub table-front : {s : Bytes} → IsTable s → openFront s ≡ Table
 table-front {s} t =
     rw (ne-eqb (length s) 0 (λ e. omega (arith, t .counted)), le-ltb (length s) 4 (t .counted), le-ltb 1024 (word s) (t .few), le-ltb (length s) (4 + tableBytes s) (t .there))
-
-empty : (s : Bytes) → length s ≡ 0 → s ≡ []
-empty [] h = refl
-empty (x ∷ xs) h = absurd (omega arith)
 
 cut-is-broken : ¬ (_≡_ {A = Ending} Cut Whole)
 cut-is-broken e = let z : _≡_ {A = ℕ} 0 1 = cc in omega arith
@@ -87,7 +84,7 @@ front-table (suc left) s h = (omega arith, go (front-view s))
     opened = sym (front-open left s) ∙ h
 
     go : (length s ≡ 0) ⊎ (IsTable s ⊎ IsBroken s) → IsTable s
-    go (inl e) = let z : _≡_ {A = ℕ} 0 1 = cc (rw (empty s e) at opened) in absurd (omega arith)
+    go (inl e) = let z : _≡_ {A = ℕ} 0 1 = cc (rw (none-in s e) at opened) in absurd (omega arith)
     go (inr (inl t)) = t
     go (inr (inr k)) = let z : _≡_ {A = ℕ} 0 1 = cc (rw (k .is) at opened) in absurd (omega arith)
 
@@ -150,7 +147,7 @@ full-whole : (s : Bytes) → fullEnding s ≡ Whole → s ≡ []
 full-whole s h =
     by-cases (decLt 0 (length s))
     (λ some. absurd (count-is-broken (rw (ne-eqb (length s) 0 (λ e. omega arith)) at h)))
-    (λ none. empty s (omega arith))
+    (λ none. none-in s (omega arith))
 
 -- after a stream that ends whole, the reading goes on with the other, where so many tables fewer may be read
 pub read-append : (n : ℕ) (a b : Bytes) → readWithin n a .ending ≡ Whole
@@ -163,7 +160,7 @@ read-append (suc n) a b h = go (front-view a) (read-append n (laterTables a) b)
         → (readWithin n (laterTables a) .ending ≡ Whole
         → readWithin n (laterTables a ++ b) ≡ joined (readWithin n (laterTables a) .tables) (readWithin (n - length (readWithin n (laterTables a) .tables)) b))
         → readWithin (suc n) (a ++ b) ≡ joined (readWithin (suc n) a .tables) (readWithin (suc n - length (readWithin (suc n) a .tables)) b)
-    go (inl e) r = rw (empty a e, sub-zero)
+    go (inl e) r = rw (none-in a e, sub-zero)
     go (inr (inl t)) r =
         let later = readWithin n (laterTables a) in
         let whole : later .ending ≡ Whole = rw (table-front t) at h in
@@ -206,7 +203,7 @@ read-enough zero (suc n) s l (inl h) = absurd (omega arith)
 read-enough zero (suc n) s l (inr (h, whole)) = go (front-view s)
   where
     go : (length s ≡ 0) ⊎ (IsTable s ⊎ IsBroken s) → readWithin 0 s ≡ readWithin (suc n) s
-    go (inl e) = rw (empty s e)
+    go (inl e) = rw (none-in s e)
     go (inr (inl t)) = absurd (omega (arith, rw (table-front t) at h))
     go (inr (inr k)) = absurd (k .broken (rw (k .is) at whole))
 read-enough (suc m) zero s l h = absurd (omega arith)
@@ -228,14 +225,14 @@ pub read-full : (m n : ℕ) (s : Bytes) → m ≤ n → length (readWithin n s .
 unfolding readWithin
 read-full zero n s l e broken =
     by-cases (decLt 0 (length s)) (λ some. rw (ne-eqb (length s) 0 (λ q. omega arith)))
-    (λ none. absurd (broken (rw (empty s (omega arith), read-nothing n))))
+    (λ none. absurd (broken (rw (none-in s (omega arith), read-nothing n))))
 read-full (suc m) zero s l e broken = absurd (omega arith)
 read-full (suc m) (suc n) s l e broken = go (front-view s) (read-full m n (laterTables s) (omega arith))
   where
     go : (length s ≡ 0) ⊎ (IsTable s ⊎ IsBroken s)
         → (length (readWithin n (laterTables s) .tables) ≡ m → ¬ (readWithin n (laterTables s) .ending ≡ Whole) → readWithin m (laterTables s) .ending ≡ Count)
         → readWithin (suc m) s .ending ≡ Count
-    go (inl q) r = absurd (omega (arith, rw (empty s q) at e))
+    go (inl q) r = absurd (omega (arith, rw (none-in s q) at e))
     go (inr (inl t)) r =
         let same : length (readWithin n (laterTables s) .tables) ≡ m = omega (arith, rw (table-front t) at e) in
         rw (table-front t) (r same (λ w. broken (rw (table-front t) w)))
@@ -256,12 +253,12 @@ unfolding readWithin
 read-stops zero a b h =
     by-cases (decLt 0 (length a))
     (λ some. rw (ne-eqb (length a) 0 (λ e. omega arith), ne-eqb (length (a ++ b)) 0 (λ e. omega (arith, length-append a b))))
-    (λ none. absurd (count-is-broken (sym (rw (empty a (omega arith)) at h))))
+    (λ none. absurd (count-is-broken (sym (rw (none-in a (omega arith)) at h))))
 read-stops (suc n) a b h = go (front-view a) (read-stops n (laterTables a) b)
   where
     go : (length a ≡ 0) ⊎ (IsTable a ⊎ IsBroken a) → (readWithin n (laterTables a) .ending ≡ Count → readWithin n (laterTables a ++ b) ≡ readWithin n (laterTables a))
         → readWithin (suc n) (a ++ b) ≡ readWithin (suc n) a
-    go (inl e) r = absurd (count-is-broken (sym (rw (empty a e) at h)))
+    go (inl e) r = absurd (count-is-broken (sym (rw (none-in a e) at h)))
     go (inr (inl t)) r =
         let stopped : readWithin n (laterTables a) .ending ≡ Count = rw (table-front t) at h in
         rw (table-front (table-append a b t), first-append a b t, later-append a b t, table-front t, r stopped)
@@ -297,5 +294,5 @@ module _ {s : Bytes} (t : IsTable s) where
   pub read-piece : (n : ℕ) → readWithin (suc n) piece ≡ record { tables = firstTable s ∷ []; ending = Whole }
   read-piece n =
       let first : firstTable piece ≡ firstTable s = sym (first-append piece (drop (4 + tableBytes s) s) piece-table) ∙ ap firstTable pieces in
-      let later : laterTables piece ≡ [] = empty (laterTables piece) (rw (piece-word, length-drop, piece-length) (omega arith)) in
+      let later : laterTables piece ≡ [] = none-in (laterTables piece) (rw (piece-word, length-drop, piece-length) (omega arith)) in
       rw (read-table n piece-table, first, later, read-nothing n)
