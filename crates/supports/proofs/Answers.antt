@@ -1,15 +1,14 @@
 -- Which refusals the support list gives, and what its answer tells.
 -- Assumes nothing.
 use mathlib.Core.Path.{_≡_, refl}
-use mathlib.Core.Bool.{Bool, true, false}
 use mathlib.Core.List.{[], _∷_, _++_}
-use Prim.Native.Nat.{ℕ, zero, suc, _+_, _≤_}
+use Prim.Native.Nat.{ℕ, _≤_}
 use native.Mathlib.Nat.{le-trans}
 use native.Mathlib.Omega.{arith}
 use lib.ListN.{length}
 use lib.Dec.{eqb}
 use Rattle.columns.specs.Column.{Bytes, Column, atFront}
-use Rattle.columns.specs.First.{keepIf, indicesFrom}
+use Rattle.columns.proofs.Indices.{length-indices}
 use Rattle.world.specs.Rows.{rows}
 use Rattle.refusals.specs.declared.Checked.the-variants.{Accepted}
 use Rattle.refusals.specs.Check.{checkInput}
@@ -25,16 +24,6 @@ unfolding checkSupports
 supports-give p t entries = also-gives 7 refl (eqb entries (rows t)) (wider-gives refl (input-gives p t))
 
 -- ---- the count
-
--- of n indices at most n are kept
-length-indices : (f : ℕ → Bool) (n i : ℕ) → length (indicesFrom f n i) ≤ n
-unfolding indicesFrom
-length-indices f zero i = omega arith
-length-indices f (suc n) i = go (f i) (length-indices f n (i + 1))
-  where
-    go : (b : Bool) → length (indicesFrom f n (i + 1)) ≤ n → length (keepIf b i (indicesFrom f n (i + 1))) ≤ suc n
-    go true h = omega arith
-    go false h = omega arith
 
 -- of an accepted table it is at most 1,024
 accepted-count : (p t : Bytes) (entries : ℕ) → checkSupports p t entries ≡ Accepted → length (supportIssues p t) ≤ 1024

@@ -1,1 +1,2 @@
 pub mod Supports
+pub mod Rows

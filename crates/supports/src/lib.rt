@@ -8,9 +8,10 @@ ghost use Prim.Native.Nat.{_≤_};
 ghost use lib.ListN.{length};
 ghost use Rattle.columns.specs.Column.{atFront};
 ghost use Rattle.world.specs.Rows.{rows};
+ghost use Rattle.supports.specs.Rows.{supportRow};
 ghost use Rattle.supports.specs.Supports.{needsSupport, isSupported, lacksSupport, supportIssues, checkSupports, Listed};
 
-fn needs_support(kind: u8) -> bool
+pub fn needs_support(kind: u8) -> bool
     ensures { λ r. ⌜ r ≡ needsSupport kind ⌝ }
 {
     (kind == kind::REDSTONE_WIRE)
@@ -18,14 +19,29 @@ fn needs_support(kind: u8) -> bool
             | ((kind == kind::REPEATER) | ((kind == kind::COMPARATOR) | (kind == kind::LEVER))))
 }
 
+// The row of the support, where that supports components.
+pub fn support_row(profile: &[u8], table: &[u8], row: usize) -> Found
+    ensures { λ r. ⌜ r ≡ supportRow (now (profile .entry)) (now (table .entry)) row ⌝ }
+{
+    let Found::At(j) = world::find::find_at(table, row::support_pos(table, row)) else {
+        return Found::Nothing;
+    };
+    if traits::redstone_traits(profile, table, j).supports {
+        Found::At(j)
+    } else {
+        Found::Nothing
+    }
+}
+
 // Whether the row has a support that supports components.
 fn is_supported(profile: &[u8], table: &[u8], row: usize) -> bool
     ensures { λ r. ⌜ r ≡ isSupported (now (profile .entry)) (now (table .entry)) row ⌝ }
 {
-    let Found::At(j) = world::find::find_at(table, row::support_pos(table, row)) else {
-        return false;
-    };
-    traits::redstone_traits(profile, table, j).supports
+    if let Found::At(_) = support_row(profile, table, row) {
+        true
+    } else {
+        false
+    }
 }
 
 // Whether the row needs a support and has none.

@@ -1,43 +1,25 @@
--- `supports::is_supported` meets its contract, by what the look-up finds. Assumes nothing.
-use mathlib.Core.Path.{sym, ap, _∙_}
-use Rattle.supports.specs.Supports.{isSupported}
+-- `supports::is_supported` meets its contract, by the row that is found. Assumes nothing.
+use mathlib.Core.Path.{sym, _∙_}
+use Rattle.supports.proofs.Rows.{supported-found}
 use borrow.Author.Needs.{needs}
 use Rattle.supports.proofs.is_supported.Statement.{statement}
 use Rattle.supports.proofs.is_supported.Tie as tie
 
-support-pos-requires : tie.Need-support-pos-requires
-support-pos-requires c κs = search needs
-
-find-at-requires : tie.Need-find-at-requires
-find-at-requires c κs = search needs
-
-enum-known-j : tie.Need-enum-known-j
-enum-known-j c = search needs
+support-row-requires : tie.Need-support-row-requires
+support-row-requires c κs = search needs
 
 enum-told : tie.Need-enum-told
 enum-told c = search needs
 
-returns : tie.Need-returns
-unfolding isSupported
-returns c = rw (← c .before .before .before .support-pos .ensures, sym (c .before .before .find-at .ensures) ∙ c .enum-told .given .1)
+enum-told-2 : tie.Need-enum-told-2
+enum-told-2 c = search needs
 
-redstone-traits-requires : tie.Need-redstone-traits-requires
-redstone-traits-requires c κs = search needs
+returns : tie.Need-returns
+returns c = rw (supported-found, sym (c .before .before .support-row .ensures) ∙ c .enum-told .given .1)
 
 returns-2 : tie.Need-returns-2
-unfolding isSupported
-returns-2 c =
-    let traits = c .redstone-traits .ensures in
-    rw (← c .before .before .before .before .before .support-pos .ensures, sym (c .before .before .before .before .find-at .ensures) ∙ c .before .before .j .given .1) (ap (λ r. r .supports) traits)
+returns-2 c = rw (supported-found, sym (c .before .before .support-row .ensures) ∙ c .enum-told2 .given .1)
 
 pub is-supported-spec : {M : Type 1} → statement M
 is-supported-spec =
-    tie.close
-    (tie.spec
-    support-pos-requires
-    find-at-requires
-    enum-known-j
-    enum-told
-    returns
-    redstone-traits-requires
-    returns-2)
+    tie.close (tie.spec support-row-requires enum-told enum-told-2 returns returns-2)
