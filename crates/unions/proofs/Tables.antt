@@ -7,9 +7,10 @@ use mathlib.Core.List.{List, [], _∷_, _++_, append-assoc, List·Memᴰ, List·
 use Prim.Native.Nat.{ℕ, zero, suc, _+_, _*_, _≤_, _<_}
 use native.Mathlib.Nat.{add-zero, zero-add, not-suc-le-zero}
 use native.Mathlib.Omega.{arith}
-use lib.ListN.{length, take, drop, length-append, take-append-drop, drop-of-length-le}
-use lib.Seq.{take-at, drop-at, drop-drop}
+use lib.ListN.{length, take, length-append}
+use lib.Seq.{take-at, drop-at}
 use Rattle.columns.specs.Column.{Bytes, part}
+use Rattle.columns.specs.First.{indicesFrom}
 use Rattle.columns.specs.Signal.{maxSignal}
 use Rattle.columns.proofs.Parts.{length-part}
 use Rattle.blocks.specs.Kind.{Comparator}
@@ -19,6 +20,8 @@ use Rattle.layout.specs.Good.{goodRow}
 use Rattle.layout.proofs.Fields.{part-byte, part-place, level-again, good-again}
 use Rattle.refusals.specs.Accepted.{Table}
 use Rattle.refusals.proofs.Accepted.{OfKinds, different}
+use Rattle.subtables.specs.Subtable.{tableOf}
+use Rattle.subtables.proofs.Rows.{table-all}
 use Rattle.unions.specs.Union.{rowsFrom, rowsOf, HasRow, joined, placeOf}
 use Rattle.unions.proofs.Rising.{Rising}
 
@@ -65,22 +68,18 @@ same-at t a r s g h e =
 abbrev pub Of32 : List Bytes → Type 0
 Of32 rs = (r : Bytes) → List·Memᴰ r rs → length r ≡ 32
 
+joined-from : (t : Bytes) (n i : ℕ) → joined (rowsFrom t n i) ≡ tableOf t (indicesFrom (λ k. true) n i)
+unfolding rowsFrom joined tableOf indicesFrom
+joined-from t zero i = refl
+joined-from t (suc n) i = ap (λ rest. part 32 t i ++ rest) (joined-from t n (i + 1))
+
 module _ (t : Bytes) (whole : length t ≡ rows t * 32) where
   pub rows-of-32 : Of32 (rowsOf t)
   rows-of-32 r m = let h = member-has t r m in rw (← h .is) (length-part 32 t (h .row) (omega (arith, h .inside)))
 
-  joined-from : (n i : ℕ) → i + n ≡ rows t → joined (rowsFrom t n i) ≡ drop (i * 32) t
-  unfolding rowsFrom joined
-  joined-from zero i e = sym (drop-of-length-le t {i = i * 32} (omega arith))
-  joined-from (suc n) i e =
-      let next : (i + 1) * 32 ≡ i * 32 + 32 = omega arith in
-      let later : joined (rowsFrom t n (i + 1)) ≡ drop 32 (drop (i * 32) t) =
-      joined-from n (i + 1) (omega arith) ∙ ap (λ k. drop k t) next ∙ sym (drop-drop 32 (i * 32) t) in
-      ap (λ rest. part 32 t i ++ rest) later ∙ take-append-drop 32 (drop (i * 32) t)
-
   -- a table is its rows, joined
   pub joined-rowsOf : joined (rowsOf t) ≡ t
-  joined-rowsOf = joined-from (rows t) 0 (zero-add (rows t))
+  joined-rowsOf = joined-from t (rows t) 0 ∙ table-all t whole
 
 pub length-joined : (rs : List Bytes) → Of32 rs → length (joined rs) ≡ length rs * 32
 unfolding joined

@@ -1,7 +1,7 @@
 // The walk along the rows of two tables, in order: each step takes a row of one of them, or of both where they stand at one position.
-use columns::copy;
 use columns::same;
 use places::Pos;
+use subtables::copy_row;
 use world::row;
 ghost use mathlib.Core.Path.{_≡_};
 ghost use Prim.Native.Nat.{_+_, _*_, _≤_};
@@ -95,15 +95,6 @@ pub fn count_rows(first: &[u8], second: &[u8]) -> Counted
         count += 1;
     }
     Counted::Rows(count)
-}
-
-// Copies a row of a table to 32 bytes.
-fn copy_row(table: &[u8], row: usize, out: &mut [u8])
-    requires { ⌜ (row * 32 + 32 ≤ length (now table)) × (length (now out) ≡ 32) ⌝ }
-    ensures { λ _. ⌜ now (out .exit) ≡ part 32 (now (table .entry)) row ⌝ }
-{
-    let start = row * row::WIDTH;
-    copy(&table[start..start + row::WIDTH], out);
 }
 
 // Copies the next row to 32 bytes.

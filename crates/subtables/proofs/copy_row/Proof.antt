@@ -1,10 +1,10 @@
--- `unions::copy_row` meets its contract. Assumes nothing.
+-- `subtables::copy_row` meets its contract. Assumes nothing.
 use mathlib.Core.Path.{_≡_}
 use Prim.Native.Nat.{_+_, _*_, _-_}
 use native.Mathlib.Omega.{arith}
 use borrow.Author.Needs.{needs}
-use Rattle.unions.proofs.copy_row.Statement.{statement}
-use Rattle.unions.proofs.copy_row.Tie as tie
+use Rattle.subtables.proofs.copy_row.Statement.{statement}
+use Rattle.subtables.proofs.copy_row.Tie as tie
 
 mul-start : tie.Need-mul-start
 mul-start c = search needs
