@@ -1,0 +1,4 @@
+pub mod Passes
+pub mod Laws
+pub mod Kept
+pub mod Largest
