@@ -19,6 +19,8 @@ use Rattle.supports.specs.Supports.{supportIssues, Listed}
 use Rattle.supports.proofs.Answers.{listed-tells}
 use Rattle.merge.specs.Merge.{checkMerge, Merges}
 use Rattle.merge.proofs.Answers.{merge-tells}
+use Rattle.clear.specs.Clear.{checkClear, Clears}
+use Rattle.clear.proofs.Answers.{clear-tells}
 use Rattle.switching.specs.Switch.{switched}
 use Rattle.redraw.specs.Redraw.{Redraws}
 use Rattle.redraw.proofs.Answers.{redraw-tells}
@@ -215,3 +217,11 @@ mergesFed = record { answer = refl; bytes = refl }
 
 merge-refused : checkMerge fed fed (cell (pos 0) (pos 0) (pos 0)) 0 ≡ Refused 7 0
 merge-refused = told-refused (merge-tells fed fed (cell (pos 0) (pos 0) (pos 0)) [] mergesFed) (omega arith)
+
+-- the table cleared, to an output that has no room: number 7
+clearsFed : Clears benchProfile fed [] [] [] [] 458752
+unfolding computing fed
+clearsFed = record { answer = refl; bytes = refl; entries = refl }
+
+clear-refused : checkClear benchProfile fed 0 0 ≡ Refused 7 0
+clear-refused = told-refused (clear-tells benchProfile fed [] [] clearsFed) (omega arith)

@@ -16,6 +16,11 @@ use Rattle.supports.specs.Supports.{isSupported, lacksSupport, supportIssues, c
 use Rattle.moving.specs.Move.{posBytes, movedRow, goodOffset, onGround}
 use Rattle.unions.specs.Union.{rowsFrom, joined, insertRow, unionRows, hasClash}
 use Rattle.merge.specs.Merge.{mergedRows, mergedTable, checkMerge}
+use Rattle.subtables.specs.Subtable.{tableOf}
+use Rattle.clearing.specs.Passes.{unnamedFrom, left}
+use Rattle.clearing.specs.Laws.{firstNone}
+use Rattle.clearing.specs.Kept.{clearing, passesOf, keptRows, keptTable, passOf, passColumn}
+use Rattle.clear.specs.Clear.{checkClear}
 use Rattle.connectivity.specs.Ports.{ahead, outputOf, inputOf, across, sidesOf}
 use Rattle.arms.specs.Arms.{connects, componentConnects, joins, rises, drops, inferPast, inferWireConnection, armOf, hasArm}
 use Rattle.wire.specs.Transfer.{fitsHorizontal, fitsRise, fitsFall, fits, ruleAlong, firstRule, transferBy, dustTransfer, transmitsBy}
@@ -44,5 +49,5 @@ use Rattle.totals.specs.Month.{monthOf}
 use Rattle.month_lines.specs.Lines.{numberedLine, numberedLines, monthText, textOf, outputOf as monthOutput}
 
 unfoldable pub computing : ℕ
-unfolding tabulateFrom concatRowsFrom same firstFrom indicesFrom settling says signed32 signed8 clamp32 satAdd samePos before opposite step horizontalOffset beside adjacent posOf supportOf armEntry storedArm firstAtOrPast find kindAt plain ofShape traits traitsAt goodProfile goodPlace goodRow checkRows checkTable checkInput isSupported lacksSupport supportIssues checkSupports posBytes movedRow goodOffset onGround rowsFrom joined insertRow unionRows hasClash mergedRows mergedTable checkMerge ahead outputOf inputOf across sidesOf connects componentConnects joins rises drops inferPast inferWireConnection armOf hasArm fitsHorizontal fitsRise fitsFall fits ruleAlong firstRule transferBy dustTransfer transmitsBy entryOf entriesOf withOpposite drawn redrawnRow updateWireShapes goodDevice checkDevices switchLevel emittedLevel emitted outputsTo isSupportOf isNextToRedstoneBlock isOverTorch emittedToStrong strongToWeak armTo alongArm touches feeds dustToWeakBy emittedToDustBy strongToDustBy networkOf roundsOf settled checkCall checkSettle devicesOf delayOf bitsSet isCandidate goodQueue goodLight goodTorch goodHadPower goodState checkState freshDevice freshDevices freshQueue freshLight freshHadPower freshRow freshState repeaterInputLevel isRequested locksFrom isLocked nextQueue repeaterRow torchSupportIsPowered nextToggles nextCandidate torchRow compared nextComparator deviceRow nextLit nextLeft lampRow nextBulbLight bulbRow lightRow withDevices withLights settledOf setDevices setLights tick ticks checkFresh checkStep checkTick switched decimalWithin decimalOf signedText lineOf rowText settledText refusalText checkRun checkWhole runText settleText readWithin streamOf asStream countBelow sumOf figuresOf monthOf numberedLine numberedLines monthText textOf monthOutput
+unfolding tabulateFrom concatRowsFrom same firstFrom indicesFrom settling says signed32 signed8 clamp32 satAdd samePos before opposite step horizontalOffset beside adjacent posOf supportOf armEntry storedArm firstAtOrPast find kindAt plain ofShape traits traitsAt goodProfile goodPlace goodRow checkRows checkTable checkInput isSupported lacksSupport supportIssues checkSupports posBytes movedRow goodOffset onGround rowsFrom joined insertRow unionRows hasClash mergedRows mergedTable checkMerge tableOf unnamedFrom left firstNone clearing passesOf keptRows keptTable passOf passColumn checkClear ahead outputOf inputOf across sidesOf connects componentConnects joins rises drops inferPast inferWireConnection armOf hasArm fitsHorizontal fitsRise fitsFall fits ruleAlong firstRule transferBy dustTransfer transmitsBy entryOf entriesOf withOpposite drawn redrawnRow updateWireShapes goodDevice checkDevices switchLevel emittedLevel emitted outputsTo isSupportOf isNextToRedstoneBlock isOverTorch emittedToStrong strongToWeak armTo alongArm touches feeds dustToWeakBy emittedToDustBy strongToDustBy networkOf roundsOf settled checkCall checkSettle devicesOf delayOf bitsSet isCandidate goodQueue goodLight goodTorch goodHadPower goodState checkState freshDevice freshDevices freshQueue freshLight freshHadPower freshRow freshState repeaterInputLevel isRequested locksFrom isLocked nextQueue repeaterRow torchSupportIsPowered nextToggles nextCandidate torchRow compared nextComparator deviceRow nextLit nextLeft lampRow nextBulbLight bulbRow lightRow withDevices withLights settledOf setDevices setLights tick ticks checkFresh checkStep checkTick switched decimalWithin decimalOf signedText lineOf rowText settledText refusalText checkRun checkWhole runText settleText readWithin streamOf asStream countBelow sumOf figuresOf monthOf numberedLine numberedLines monthText textOf monthOutput
 computing = 0

@@ -5,6 +5,7 @@ ghost use lib.IntN.{ℤ};
 ghost use Rattle.places.specs.Places.{cell};
 ghost use Rattle.supports.specs.Supports.{Listed};
 ghost use Rattle.merge.specs.Merge.{Merges};
+ghost use Rattle.clear.specs.Clear.{Clears};
 ghost use Rattle.redraw.specs.Redraw.{Redraws};
 ghost use Rattle.electrical.specs.Answer.{Settles};
 ghost use Rattle.updates.specs.Calls.{Fresh, Ticks, Switches};
@@ -117,4 +118,19 @@ pub extern "C" fn redstone_merge(
     ensures { λ r. ⌜ Merges (now (first .entry)) (now (second .entry)) (cell dx dy dz) (now (out .entry)) (now (out .exit)) r ⌝ }
 {
     merge::merge(first, second, Pos::new(dx, dy, dz), out)
+}
+
+// The rows that are kept when every row that the support list names is removed, again and again until it names none: at the front of the output, in
+// order, the rest of it untouched; and for each row of the table the pass, from 1, in which it went, or 0. Answers how many rows are kept. The output
+// is as long as the table, and the column has an entry for each of its rows.
+#[no_mangle]
+pub extern "C" fn redstone_clear(
+    profile: &[u8],
+    table: &[u8],
+    kept: &mut [u8],
+    passes: &mut [u16],
+) -> u32
+    ensures { λ r. ⌜ Clears (now (profile .entry)) (now (table .entry)) (now (kept .entry)) (now (kept .exit)) (now (passes .entry)) (now (passes .exit)) r ⌝ }
+{
+    clear::clear(profile, table, kept, passes)
 }
