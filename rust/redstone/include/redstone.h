@@ -3,15 +3,15 @@
  *
  * Buffers. Each is a pointer and then its length in entries, and may have any length and content. Buffers that are only
  * read may be one or overlap, as redstone_merge's two tables; a buffer that is written may overlap no other. A pointer
- * must not be null, not even with length 0. Entries are bytes, but for the rows of redstone_supports, which have 16 bits:
- * that buffer stands at an even address.
+ * must not be null, not even with length 0. Entries are bytes, but for the rows of redstone_supports and the passes of
+ * redstone_clear, which have 16 bits: those buffers stand at even addresses.
  *
  * Threads and stack. There are no globals and nothing is allocated or kept: any thread may call at any time, over
  * buffers that no other thread writes meanwhile. 48 KiB of free stack are enough for every call.
  *
  * Answer. Where the call is refused, 65536 times the refusal's number plus the row at fault, and no byte of any buffer
  * is written. Else the rounds in which the table settled, 1 to 17, and all of signal, weak and strong are written;
- * redstone_redraw, redstone_supports and redstone_merge, which settle nothing, say below what they answer.
+ * redstone_redraw, redstone_supports, redstone_merge and redstone_clear, which settle nothing, say below what they answer.
  *
  * Table. At most 1024 rows of 32 bytes, ordered by x, then y, then z, all positions different. Numbers have their low
  * byte first. y is up.
@@ -84,7 +84,8 @@
  *   4  bad row     a field outside the layout, or kind 13 with a profile of 13 bytes
  *   5  misplaced   a position not after the row before
  *   6  bad state   device column or state of wrong length or value, but for 10's
- *   7  column      an output column, or fresh's state, not one entry per row; merge's output not 32768 bytes
+ *   7  column      an output column, or fresh's state, not one entry per row; merge's output not 32768 bytes; clear's
+ *                  kept rows not as many bytes as the table
  *   8  unsettled   limit below the rounds needed (settle alone; 17 is always enough)
  *   9  clock end   tick plus ticks above 4294967295 (tick alone)
  *   10 overdriven  a comparator with a power level above 15 given in its row, or with a device byte above 15 in the
@@ -232,6 +233,19 @@ uint32_t redstone_merge(
     const uint8_t *second, size_t second_length,
     int32_t dx, int32_t dy, int32_t dz,
     uint8_t *out, size_t out_length);
+
+/* Takes away all rows that redstone_supports lists, then all that it lists of what is left, and so on, until it lists
+ * none. Writes the rows that are kept to the front of `kept`, in the table's order; the rest of it is untouched. `kept`
+ * has as many bytes as the table, and is another buffer. Writes to `passes`, which has one entry a row of the table, the
+ * pass in which each row went, from 1 on, or 0 where it is kept. The rows of a pass go together: until it is over each of
+ * them holds up what stands on it. Rows that hold each other up are never listed, and are kept; so is one that holds itself
+ * up. There are at most as many passes as rows. What is kept is the largest set of rows in which each that needs support
+ * has it; under the same profile it is an accepted table, of which nothing would go. Answers how many rows are kept. */
+uint32_t redstone_clear(
+    const uint8_t *profile, size_t profile_length,
+    const uint8_t *table, size_t table_length,
+    uint8_t *kept, size_t kept_length,
+    uint16_t *passes, size_t passes_length);
 
 #ifdef __cplusplus
 }

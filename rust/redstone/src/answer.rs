@@ -55,8 +55,9 @@ pub enum RefusalKind {
     Misplaced,
     /// 6: the device column or the state has a wrong length or value.
     BadState,
-    /// 7: an output column, or the state lent to [`fresh`](crate::fresh), has not one entry for each row; or what is lent
-    /// to [`merge`](crate::merge) has not [`MERGE_BYTES`](crate::MERGE_BYTES).
+    /// 7: an output column, or the state lent to [`fresh`](crate::fresh), has not one entry for each row; what is lent to
+    /// [`merge`](crate::merge) has not [`MERGE_BYTES`](crate::MERGE_BYTES); or the room that is lent to
+    /// [`clear`](crate::clear) is not as long as the table.
     Column,
     /// 8: the limit is below the rounds needed.
     Unsettled,

@@ -91,4 +91,5 @@ calls! {
     fn redstone_merge(
         read first: u8, read second: u8, pass dx: i32, pass dy: i32, pass dz: i32, write out: u8,
     );
+    fn redstone_clear(read profile: u8, read table: u8, write kept: u8, write passes: u16);
 }

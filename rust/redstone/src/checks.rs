@@ -83,6 +83,11 @@ pub(crate) fn merge(first: &[u8], second: &[u8], offset: [i32; 3], room: usize) 
     check_together(first_rows.len(), second_rows.len(), shared(first, second, offset).count())
 }
 
+/// What [`clear`](crate::clear) refuses.
+pub(crate) fn clear(profile: &[u8], table: &[u8], lent: Lengths) -> Result<(), Fault> {
+    check_lengths(&input(profile, table)?, lent)
+}
+
 /// 1 to 5, and 10 on the rows. The rows are those of the accepted table.
 fn input(profile: &[u8], table: &[u8]) -> Result<Vec<Row>, Fault> {
     check_profile(profile)?;
@@ -191,6 +196,7 @@ fn check_lengths(rows: &[Row], buffers: Lengths) -> Result<(), Fault> {
     for &(buffer, length) in buffers {
         let expected = match buffer {
             Buffer::State => STATE_BYTES * rows.len(),
+            Buffer::Kept => ROW_BYTES * rows.len(),
             _ => rows.len(),
         };
         if length != expected {

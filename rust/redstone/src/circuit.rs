@@ -1,8 +1,8 @@
 //! A table with its profile, state, tick number and columns, kept together.
 
 use crate::{
-    Columns, Device, ROW_BYTES, Refusal, Rounds, Row, STATE_BYTES, find, fresh, redraw, settle, supports,
-    switch, table, tick,
+    Cleared, Columns, Device, ROW_BYTES, Refusal, Rounds, Row, STATE_BYTES, cleared, find, fresh, redraw,
+    settle, supports, switch, table, tick,
 };
 
 /// Why the rows of a circuit can be read: no call has refused them.
@@ -11,8 +11,8 @@ const ACCEPTED: &str = "a table and a state that the calls accepted are within t
 /// A table with its profile, its state, the number of the tick that it stands at, and what it settled to.
 ///
 /// Everything in it comes from the calls: it is made by [`fresh`], and its methods are [`tick`], [`switch`],
-/// [`settle`], [`redraw`] and [`supports`] over its own buffers. After each the figures are there by row and by position.
-/// A call that is refused changes nothing.
+/// [`settle`], [`redraw`], [`supports`] and [`cleared`] over its own buffers. After each the figures are there by row and
+/// by position. A call that is refused changes nothing.
 ///
 /// A lever on a lamp:
 ///
@@ -251,6 +251,16 @@ impl Circuit {
         let mut rows = vec![0; self.len()];
         let count = supports(&self.profile, &self.table, &mut rows)?;
         Ok(rows[..count].iter().copied().map(usize::from).collect())
+    }
+
+    /// What is left of the table once all that would drop is gone, and when each row went. The circuit stays as it is:
+    /// the rows that are kept make another one, by [`from_table`](Self::from_table).
+    ///
+    /// # Errors
+    ///
+    /// None, as for [`fresh`](Self::fresh).
+    pub fn cleared(&self) -> Result<Cleared, Refusal> {
+        cleared(&self.profile, &self.table)
     }
 
     /// The number of rows.

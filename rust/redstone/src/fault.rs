@@ -198,6 +198,10 @@ pub enum Buffer {
     Rows,
     /// The room for what two tables are merged to.
     Merged,
+    /// The room for the rows that are kept of a table.
+    Kept,
+    /// The column of passes.
+    Passes,
 }
 
 impl Fault {
@@ -366,6 +370,8 @@ impl Display for Buffer {
             Self::Strong => "strong column",
             Self::Rows => "column of rows",
             Self::Merged => "room for the merged table",
+            Self::Kept => "room for the kept rows",
+            Self::Passes => "column of passes",
         })
     }
 }

@@ -34,7 +34,8 @@
 //! - A torch goes out while the block at its support offset has power. One whose `powered` is missing starts lit.
 //! - A copper bulb is a lamp whose light flips each time that power arrives, and then stays. It starts as its `powered`
 //!   says, and dark where that is missing. It takes a profile with its byte, such as [`BENCH_PROFILE_WITH_BULB`].
-//! - The support offset is what the [support list](supports) looks at, too: settling itself asks for no floor.
+//! - The support offset is what the [support list](supports) looks at, too: settling itself asks for no floor. What
+//!   has no support to be fixed to, [`clear`] takes away.
 //!
 //! # Figures
 //!
@@ -50,11 +51,12 @@
 //!
 //! # Calls
 //!
-//! There are seven calls over plain slices, which an editor with buffers of its own can use as they are. [`Circuit`] is
-//! made of six: [`fresh`] once for a table, then [`tick`] and [`switch`] as the player waits and throws levers;
-//! [`settle`] asks what a table settles to with other devices; [`redraw`] draws the arms of dust, and [`supports`] lists
-//! what nothing holds up. The seventh, [`merge`], puts two tables in one, and [`merged`] is the same without a buffer to
-//! lend. The repository's README has their formats byte by byte:
+//! There are eight calls over plain slices, which an editor with buffers of its own can use as they are. [`Circuit`] is
+//! made of seven: [`fresh`] once for a table, then [`tick`] and [`switch`] as the player waits and throws levers;
+//! [`settle`] asks what a table settles to with other devices; [`redraw`] draws the arms of dust; [`supports`] lists
+//! what nothing holds up, and [`clear`] takes it away, with all that it held up. The eighth, [`merge`], puts two tables
+//! in one. [`cleared`] and [`merged`] are the same as the last two without buffers to lend. The repository's README has
+//! their formats byte by byte:
 //!
 //! - The profile has [`PROFILE_BYTES`], one for each kind of block from Air on, such as [`BENCH_PROFILE`]; or
 //!   [`PROFILE_BYTES_WITH_BULB`], such as [`BENCH_PROFILE_WITH_BULB`], and only then may the table have bulbs.
@@ -99,6 +101,7 @@ mod answer;
 mod c;
 mod checks;
 mod circuit;
+mod clear;
 mod code;
 mod device;
 mod fault;
@@ -112,6 +115,7 @@ mod tests;
 use answer::answered;
 pub use answer::{Refusal, RefusalKind, Rounds};
 pub use circuit::{Block, Circuit, Figures, Settled};
+pub use clear::Cleared;
 pub use code::{Arm, Facing, Kind, Shape, UnknownCode, UnknownName};
 pub use device::Device;
 pub use fault::{Buffer, Fault, WhichTable};
@@ -405,4 +409,67 @@ pub fn merged(first: &[u8], second: &[u8], offset: [i32; 3]) -> Result<Vec<u8>, 
     let count = merge(first, second, offset, &mut out)?;
     out.truncate(ROW_BYTES * count);
     Ok(out)
+}
+
+/// Takes away all rows that [`supports`] lists, then all that it lists of what is left, and so on, until it lists none.
+/// Writes the rows that are kept to the front of `kept`, in the table's order, and answers how many they are; all bytes
+/// after them stay as they were. Writes to `passes` the pass in which each row of the table went, from 1 on, or 0 where it
+/// is kept. `kept` is as long as the table, and `passes` has an entry for each row. [`cleared`] lends it both.
+///
+/// The rows of a pass go together: until it is over each of them holds up what stands on it. Rows that hold each other up
+/// are never listed, and are kept; so is one that holds itself up. There are at most as many passes as rows. What is kept
+/// is the largest set of rows in which each that needs support has it; under the same profile it is an accepted table, of
+/// which nothing would go.
+///
+/// ```
+/// use redstone::{BENCH_PROFILE, Kind, ROW_BYTES, Row, table};
+///
+/// let lever = Row::new(Kind::Lever, [0, 1, 0]).with_support([0, -1, 0]);
+/// let room = table([Row::new(Kind::Solid, [0, 0, 0]), lever, lever.with_position([1, 1, 0])]);
+/// let (mut kept, mut passes) = (vec![0; room.len()], [0; 3]);
+/// let count = redstone::clear(&BENCH_PROFILE, &room, &mut kept, &mut passes)?;
+///
+/// assert_eq!((count, passes), (2, [0, 0, 1]));
+/// assert_eq!(kept[..ROW_BYTES * count], room[..ROW_BYTES * count]);
+/// # Ok::<(), redstone::Refusal>(())
+/// ```
+///
+/// # Errors
+///
+/// Refusals 1 to 5, 10 on a row, and 7 on `kept` or `passes`.
+pub fn clear(profile: &[u8], table: &[u8], kept: &mut [u8], passes: &mut [u16]) -> Result<usize, Refusal> {
+    let lengths = [(Buffer::Kept, kept.len()), (Buffer::Passes, passes.len())];
+    let answer = c::redstone_clear(profile, table, kept, passes);
+    answered(answer, || checks::clear(profile, table, &lengths)).map(|count| count as usize)
+}
+
+/// What is left of a table once all that would drop is gone, and when each row went, as [`clear`] writes it.
+///
+/// Under a profile by which repeaters support components, a tower of them whose floor is missing, and two that hold each
+/// other up:
+///
+/// ```
+/// use redstone::{BENCH_PROFILE, Kind, Row, cleared, rows, table};
+///
+/// let mut profile = BENCH_PROFILE;
+/// profile[usize::from(Kind::Repeater.code())] = 1;
+/// let repeater = |position, support| Row::new(Kind::Repeater, position).with_support(support);
+/// let tower = [1, 2, 3].map(|y| repeater([0, y, 0], [0, -1, 0]));
+/// let pair = [repeater([5, 1, 0], [1, 0, 0]), repeater([6, 1, 0], [-1, 0, 0])];
+///
+/// let cleared = cleared(&profile, &table([&tower[..], &pair].concat()))?;
+/// assert_eq!(cleared.passes, [1, 2, 3, 0, 0]);
+/// assert_eq!(cleared.gone(), [(0, 1), (1, 2), (2, 3)]);
+/// assert_eq!(rows(&cleared.kept)?, pair);
+/// # Ok::<(), Box<dyn std::error::Error>>(())
+/// ```
+///
+/// # Errors
+///
+/// Those of [`clear`], but for 7.
+pub fn cleared(profile: &[u8], table: &[u8]) -> Result<Cleared, Refusal> {
+    let (mut kept, mut passes) = (vec![0; table.len()], vec![0; table.len() / ROW_BYTES]);
+    let count = clear(profile, table, &mut kept, &mut passes)?;
+    kept.truncate(ROW_BYTES * count);
+    Ok(Cleared { kept, passes })
 }

@@ -186,7 +186,7 @@ impl Row {
     /// The support offset: the step to the block that this one is fixed to, each part from -1 to 1, `[0, -1, 0]` to
     /// the one below. A lever, button or plate powers that block, and a torch goes out while it has power; where the
     /// offset is missing, the one powers no block and the other stays lit. [`supports`](crate::supports) lists blocks
-    /// with no support to be fixed to.
+    /// with no support to be fixed to, and [`clear`](crate::clear) takes them away.
     #[must_use]
     pub fn support(&self) -> Option<[i8; 3]> {
         self.support

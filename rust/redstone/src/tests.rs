@@ -2,6 +2,7 @@ mod build_script;
 mod bulbs;
 mod calls;
 mod circuit;
+mod clear;
 mod faults;
 mod header;
 mod merge;

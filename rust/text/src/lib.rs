@@ -91,6 +91,6 @@ mod table;
 pub use error::Error;
 pub use line::{Line, Word, Words, lines};
 pub use nearest::nearest;
-pub use row::{arms_text, position_text, read_row, row_text};
+pub use row::{arms_text, position_text, read_row, row_text, shape_name};
 pub use step::Step;
 pub use table::{Table, TableReader};

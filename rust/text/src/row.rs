@@ -137,7 +137,9 @@ pub(crate) fn kinds() -> impl Iterator<Item = (&'static str, Kind)> + Clone {
     named(Kind::ALL, Kind::name)
 }
 
-fn shape_name(shape: Shape) -> &'static str {
+/// A shape as a row has it.
+#[must_use]
+pub fn shape_name(shape: Shape) -> &'static str {
     match shape {
         Shape::Plain => "plain",
         Shape::BottomSlab => "bottom_slab",

@@ -3,8 +3,8 @@
 use super::{Lent, UNTOUCHED};
 use crate::{
     Arm, BENCH_PROFILE, BENCH_PROFILE_WITH_BULB, Device, FARTHEST_OFFSET, Facing, Kind, MERGE_BYTES,
-    MOST_ROWS, ROW_BYTES, Refusal, Rounds, Row, STATE_BYTES, fresh, merge, redraw, rows, settle, supports,
-    switch, table, tick,
+    MOST_ROWS, ROW_BYTES, Refusal, Rounds, Row, STATE_BYTES, clear, fresh, merge, redraw, rows, settle,
+    supports, switch, table, tick,
 };
 
 /// The number and the row of a refusal.
@@ -118,6 +118,8 @@ struct Buffers {
     state: Vec<u8>,
     lent: Lent,
     list: Vec<u16>,
+    kept: Vec<u8>,
+    passes: Vec<u16>,
 }
 
 /// The row of the comparator.
@@ -136,11 +138,13 @@ impl Buffers {
             Device::Comparator { level: 0 },
         ];
         Self {
+            kept: vec![UNTOUCHED; table.len()],
             table,
             devices: devices.map(|device| device.byte()).to_vec(),
             state: devices.map(|device| device.bytes()).concat(),
             lent: Lent::new(devices.len()),
             list: vec![u16::MAX; devices.len()],
+            passes: vec![u16::MAX; devices.len()],
         }
     }
 }
@@ -148,18 +152,19 @@ impl Buffers {
 /// A call under a profile. One that is not refused writes.
 type Call = fn(&[u8], &mut Buffers) -> Refused;
 
-/// Fresh, settle, tick, switch, redraw and supports.
-const CALLS: [Call; 6] = [
+/// Fresh, settle, tick, switch, redraw, supports and clear.
+const CALLS: [Call; 7] = [
     |profile, of| refused(fresh(profile, &of.table, &mut of.state, of.lent.columns())),
     |profile, of| refused(settle(profile, &of.table, &of.devices, 17, of.lent.columns())),
     |profile, of| refused(tick(profile, &of.table, &mut of.state, 0, 1, of.lent.columns())),
     |profile, of| refused(switch(profile, &mut of.table, &of.state, [0, 1, 0], false, of.lent.columns())),
     |profile, of| refused(redraw(profile, &mut of.table)),
     |profile, of| refused(supports(profile, &of.table, &mut of.list)),
+    |profile, of| refused(clear(profile, &of.table, &mut of.kept, &mut of.passes)),
 ];
 
 /// That each call answers so, and writes exactly where it is not refused.
-fn assert_each(profile: &[u8], buffers: &Buffers, refused: [Refused; 6]) {
+fn assert_each(profile: &[u8], buffers: &Buffers, refused: [Refused; 7]) {
     for (call, refused) in CALLS.into_iter().zip(refused) {
         let mut lent = buffers.clone();
         assert_eq!(call(profile, &mut lent), refused, "{profile:?}");
@@ -174,15 +179,15 @@ fn a_comparators_level_is_refused_exactly_above_15() {
         let overdriven = (level > 15).then_some((10, COMPARATOR));
         let mut buffers = Buffers::new();
         buffers.table[COMPARATOR * ROW_BYTES + 16] = level;
-        assert_each(&BENCH_PROFILE, &buffers, [overdriven; 6]);
+        assert_each(&BENCH_PROFILE, &buffers, [overdriven; 7]);
 
         let mut buffers = Buffers::new();
         buffers.devices[COMPARATOR] = level;
-        assert_each(&BENCH_PROFILE, &buffers, [None, overdriven, None, None, None, None]);
+        assert_each(&BENCH_PROFILE, &buffers, [None, overdriven, None, None, None, None, None]);
 
         let mut buffers = Buffers::new();
         buffers.state[COMPARATOR * STATE_BYTES] = level;
-        assert_each(&BENCH_PROFILE, &buffers, [None, None, overdriven, overdriven, None, None]);
+        assert_each(&BENCH_PROFILE, &buffers, [None, None, overdriven, overdriven, None, None, None]);
     }
 }
 
@@ -195,7 +200,7 @@ fn a_profile_byte_is_refused_exactly_above_its_limit() {
             for value in 0..=u8::MAX {
                 let mut profile = bench.to_vec();
                 profile[kind] = value;
-                assert_each(&profile, &Buffers::new(), [(value > most).then_some((1, 0)); 6]);
+                assert_each(&profile, &Buffers::new(), [(value > most).then_some((1, 0)); 7]);
             }
         }
     }
@@ -205,7 +210,7 @@ fn a_profile_byte_is_refused_exactly_above_its_limit() {
 fn a_profile_has_13_or_14_bytes() {
     for length in 0..=64 {
         let is_good = length == 13 || length == 14;
-        assert_each(&vec![0; length], &Buffers::new(), [(!is_good).then_some((1, 0)); 6]);
+        assert_each(&vec![0; length], &Buffers::new(), [(!is_good).then_some((1, 0)); 7]);
     }
 }
 

@@ -3,7 +3,7 @@
 use super::Lent;
 use crate::{
     Arm, BENCH_PROFILE_WITH_BULB, Circuit, Device, Facing, Fault, Figures, Kind, PROFILE_BYTES_WITH_BULB,
-    Rounds, Row, STATE_BYTES, fresh, redraw, settle, switch, table, tick,
+    Rounds, Row, STATE_BYTES, cleared, fresh, redraw, settle, switch, table, tick,
 };
 
 const PROFILE: [u8; PROFILE_BYTES_WITH_BULB] = BENCH_PROFILE_WITH_BULB;
@@ -195,12 +195,23 @@ fn a_circuit_lists_what_nothing_holds_up() {
 }
 
 #[test]
+fn a_circuit_tells_what_is_left_of_it_and_stays_as_it_is() {
+    let circuit = circuit();
+    let (before, torch) = (circuit.clone(), circuit.at([9, 9, 9]).expect("a torch").number);
+    let left = circuit.cleared().expect("accepted");
+    assert_eq!(left.gone(), [(torch, 1)]);
+    assert_eq!(Ok(left), cleared(&PROFILE, circuit.table()));
+    assert_eq!(circuit, before);
+}
+
+#[test]
 fn an_empty_circuit_settles() {
     let mut circuit = Circuit::new(&PROFILE, []).expect("accepted");
     assert!(circuit.is_empty() && circuit.blocks().next().is_none());
     assert_eq!(circuit.rounds().get(), 1);
     assert_eq!(circuit.tick(3).map(Rounds::get), Ok(1));
     assert_eq!(circuit.unsupported(), Ok(Vec::new()));
+    assert_eq!(circuit.cleared().map(|cleared| cleared.kept), Ok(Vec::new()));
 }
 
 #[test]

@@ -3,8 +3,8 @@
 use super::Lent;
 use crate::{
     BENCH_PROFILE, BENCH_PROFILE_WITH_BULB, Buffer, Circuit, Device, Facing, Fault, Kind, MOST_ROWS,
-    PROFILE_BYTES, ROW_BYTES, Refusal, Row, STATE_BYTES, WhichTable, checks, find, fresh, redraw, settle,
-    supports, switch, table, tick,
+    PROFILE_BYTES, ROW_BYTES, Refusal, Row, STATE_BYTES, WhichTable, checks, clear, find, fresh, redraw,
+    settle, supports, switch, table, tick,
 };
 
 /// What all calls take.
@@ -20,6 +20,10 @@ struct Input {
     columns: [usize; 3],
     /// The length of the column for row numbers.
     list: usize,
+    /// The length of the room for the kept rows.
+    kept: usize,
+    /// The length of the column of passes.
+    passes: usize,
     limit: u32,
     tick: u32,
 }
@@ -36,6 +40,8 @@ impl Input {
             fresh: STATE_BYTES * rows,
             columns: [rows; 3],
             list: rows,
+            kept: ROW_BYTES * rows,
+            passes: rows,
             limit: 17,
             tick: 0,
         }
@@ -81,11 +87,13 @@ impl Input {
 
     /// What every call answers, where it is refused. The reason has the number and the row of the answer; and where a
     /// call is not refused, the tests for the reason find nothing.
-    fn refusals(&self) -> [Option<Refusal>; 6] {
+    fn refusals(&self) -> [Option<Refusal>; 7] {
         let Self { profile, table, devices, state, limit, tick: number, .. } = self;
         let mut lent = Lent::of_lengths(self.columns);
         let lengths = &lent.columns().lengths();
         let (mut fresh_state, mut list) = (vec![0; self.fresh], vec![0; self.list]);
+        let (mut kept, mut passes) = (vec![0; self.kept], vec![0; self.passes]);
+        let of_clear = &[(Buffer::Kept, self.kept), (Buffer::Passes, self.passes)];
         let answers = [
             (
                 fresh(profile, table, &mut fresh_state, lent.columns()).err(),
@@ -105,6 +113,10 @@ impl Input {
             ),
             (redraw(profile, &mut table.clone()).err(), checks::redraw(profile, table).err()),
             (supports(profile, table, &mut list).err(), checks::supports(profile, table, &list).err()),
+            (
+                clear(profile, table, &mut kept, &mut passes).err(),
+                checks::clear(profile, table, of_clear).err(),
+            ),
         ];
         answers.map(|(answer, found)| {
             // Settle tells a limit that is too low by finding nothing else.
@@ -175,7 +187,7 @@ fn reasons_agree_with_the_answers_on_every_state_byte() {
 #[test]
 fn reasons_agree_with_the_answers_on_every_length() {
     let input = Input::devices();
-    assert_eq!(input.refusals(), [None; 6]);
+    assert_eq!(input.refusals(), [None; 7]);
     for length in (0..64).chain([MOST_ROWS, MOST_ROWS + 1]) {
         for change in [
             |input: &mut Input, length| input.profile.resize(length, 0),
@@ -189,7 +201,10 @@ fn reasons_agree_with_the_answers_on_every_length() {
             |input, length| input.columns[1] = length,
             |input, length| input.columns[2] = length,
             |input, length| input.list = length,
-        ] as [fn(&mut Input, usize); 11]
+            |input, length| input.kept = length,
+            |input, length| input.kept = ROW_BYTES * length,
+            |input, length| input.passes = length,
+        ] as [fn(&mut Input, usize); 14]
         {
             let mut tried = input.clone();
             change(&mut tried, length);
@@ -201,7 +216,7 @@ fn reasons_agree_with_the_answers_on_every_length() {
 /// Two things wrong at once: the first of the table of refusals is given.
 #[test]
 fn reasons_agree_with_the_answers_on_two_faults() {
-    let changes: [Change; 19] = [
+    let changes: [Change; 22] = [
         |input| input.profile[0] = 1,
         |input| input.profile.resize(20, 0),
         |input| input.profile.truncate(PROFILE_BYTES),
@@ -219,6 +234,9 @@ fn reasons_agree_with_the_answers_on_two_faults() {
         |input| input.state[10] = 1,
         |input| input.fresh += 1,
         |input| input.columns[2] += 1,
+        |input| input.list += 1,
+        |input| input.kept -= 1,
+        |input| input.passes += 1,
         |input| input.limit = 1,
         |input| input.tick = u32::MAX,
     ];
@@ -318,6 +336,18 @@ fn each_reason_says_what_is_wrong_and_what_would_be_right() {
         "the column of rows has length 3; for this table it must be 2"
     );
     assert_eq!(
+        message(|input| input.kept = 32),
+        "the room for the kept rows has length 32; for this table it must be 64"
+    );
+    assert_eq!(
+        message(|input| input.passes = 64),
+        "the column of passes has length 64; for this table it must be 2"
+    );
+    assert_eq!(
+        message(|input| (input.kept, input.passes) = (65, 3)),
+        "the room for the kept rows has length 65; for this table it must be 64"
+    );
+    assert_eq!(
         message(|input| input.limit = 1),
         "the table does not settle within a limit of 1; 17 is always enough"
     );
@@ -402,8 +432,8 @@ fn the_reason_says_how_large_a_comparators_level_may_be() {
     );
 }
 
-/// The number and the row that fresh, settle, tick, switch, redraw and supports are refused with.
-fn refused(changes: &[Change]) -> [Option<(u32, usize)>; 6] {
+/// The number and the row that fresh, settle, tick, switch, redraw, supports and clear are refused with.
+fn refused(changes: &[Change]) -> [Option<(u32, usize)>; 7] {
     let mut input = comparators();
     changes.iter().for_each(|change| change(&mut input));
     input.refusals().map(|refusal| refusal.map(|refusal| (refusal.number, refusal.row)))
@@ -414,9 +444,9 @@ fn refused(changes: &[Change]) -> [Option<(u32, usize)>; 6] {
 fn a_rows_level_is_tested_after_5_and_before_6() {
     let [first, second]: [Change; 2] =
         [|input| input.table[16] = 16, |input| input.table[ROW_BYTES + 16] = 255];
-    assert_eq!(refused(&[first]), [Some((10, 0)); 6]);
-    assert_eq!(refused(&[second]), [Some((10, 1)); 6]);
-    assert_eq!(refused(&[second, first]), [Some((10, 0)); 6]);
+    assert_eq!(refused(&[first]), [Some((10, 0)); 7]);
+    assert_eq!(refused(&[second]), [Some((10, 1)); 7]);
+    assert_eq!(refused(&[second, first]), [Some((10, 0)); 7]);
     let before: [(Change, _); 5] = [
         (|input| input.profile[0] = 1, (1, 0)),
         (|input| input.table.push(0), (2, 0)),
@@ -425,9 +455,9 @@ fn a_rows_level_is_tested_after_5_and_before_6() {
         (|input| input.table[2 * ROW_BYTES] = 1, (5, 2)),
     ];
     for (other, answer) in before {
-        assert_eq!(refused(&[first, other]), [Some(answer); 6]);
+        assert_eq!(refused(&[first, other]), [Some(answer); 7]);
     }
-    let after: [Change; 9] = [
+    let after: [Change; 11] = [
         |input| input.devices.push(0),
         |input| input.devices[0] = 16,
         |input| input.state.push(0),
@@ -435,18 +465,20 @@ fn a_rows_level_is_tested_after_5_and_before_6() {
         |input| input.fresh += 1,
         |input| input.columns[0] += 1,
         |input| input.list += 1,
+        |input| input.kept += 1,
+        |input| input.passes += 1,
         |input| input.limit = 0,
         |input| input.tick = u32::MAX,
     ];
     for other in after {
-        assert_eq!(refused(&[second, other]), [Some((10, 1)); 6]);
+        assert_eq!(refused(&[second, other]), [Some((10, 1)); 7]);
     }
 }
 
 /// A level of the device column is tested after 6, over all rows, and before 7.
 #[test]
 fn a_device_columns_level_is_tested_after_6_and_before_7() {
-    let settle_alone = |answer| [None, Some(answer), None, None, None, None];
+    let settle_alone = |answer| [None, Some(answer), None, None, None, None, None];
     let [first, second]: [Change; 2] = [|input| input.devices[0] = 16, |input| input.devices[1] = 255];
     assert_eq!(refused(&[first]), settle_alone((10, 0)));
     assert_eq!(refused(&[second]), settle_alone((10, 1)));
@@ -456,14 +488,14 @@ fn a_device_columns_level_is_tested_after_6_and_before_7() {
     assert_eq!(refused(&[first, |input| input.devices[2] = 255]), settle_alone((6, 2)));
     assert_eq!(refused(&[second, |input| input.limit = 0]), settle_alone((10, 1)));
     let column = Some((7, 0));
-    let answers = [column, Some((10, 1)), column, column, None, None];
+    let answers = [column, Some((10, 1)), column, column, None, None, None];
     assert_eq!(refused(&[second, |input| input.columns[2] += 1]), answers);
 }
 
 /// A level of the state is tested after 6, over all rows and bytes, and before 7.
 #[test]
 fn a_states_level_is_tested_after_6_and_before_7() {
-    let tick_and_switch = |answer| [None, None, Some(answer), Some(answer), None, None];
+    let tick_and_switch = |answer| [None, None, Some(answer), Some(answer), None, None, None];
     let [first, second]: [Change; 2] = [|input| input.state[0] = 16, |input| input.state[STATE_BYTES] = 255];
     assert_eq!(refused(&[first]), tick_and_switch((10, 0)));
     assert_eq!(refused(&[second]), tick_and_switch((10, 1)));
@@ -473,7 +505,7 @@ fn a_states_level_is_tested_after_6_and_before_7() {
     assert_eq!(refused(&[first, |input| input.state[2 * STATE_BYTES] = 255]), tick_and_switch((6, 2)));
     assert_eq!(refused(&[second, |input| input.tick = u32::MAX]), tick_and_switch((10, 1)));
     let column = Some((7, 0));
-    let answers = [column, column, Some((10, 1)), Some((10, 1)), None, None];
+    let answers = [column, column, Some((10, 1)), Some((10, 1)), None, None, None];
     assert_eq!(refused(&[second, |input| input.columns[0] += 1]), answers);
 }
 

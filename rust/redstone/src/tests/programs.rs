@@ -73,12 +73,21 @@ const ROOMS: &str = "\
 tick 1: lamp 15
 ";
 
+/// What both examples of a floor write, but for their refusals.
+const FLOOR: &str = "\
+pass 1: row 0
+pass 2: row 1
+pass 3: row 2
+2 of 5 rows are kept
+";
+
 #[test]
 fn the_examples_in_c_run() {
     assert_eq!(c_program("examples/lamp.c"), format!("{LAMP}tick 7, refused: refusal 4, row 2\n"));
     let refusal = "tick 4, without the bulb's byte: refusal 4, row 0";
     assert_eq!(c_program("examples/bulb.c"), format!("{BULB}{refusal}\n"));
     assert_eq!(c_program("examples/rooms.c"), format!("{ROOMS}refusal 12, row 0\n"));
+    assert_eq!(c_program("examples/floor.c"), format!("{FLOOR}refusal 7, row 0\n"));
 }
 
 #[test]
@@ -91,6 +100,9 @@ fn the_examples_in_rust_run() {
     let refusal = "refusal 12, clash: row 1 of the first table and row 1 of the second, once moved, are both at 1,0,0, and \
                    kind (byte 12) is 1 in the first and 5 in the second; at one position the 32 bytes must be the same";
     assert_eq!(rust_example("rooms"), format!("{ROOMS}{refusal}\n"));
+    let refusal =
+        "refusal 7, column: the room for the kept rows has length 64; for this table it must be 160";
+    assert_eq!(rust_example("floor"), format!("{FLOOR}{refusal}\n"));
 }
 
 #[test]

@@ -16,6 +16,8 @@ static uint8_t state[ROWS * REDSTONE_STATE_BYTES];
 static uint8_t signal[ROWS], weak[ROWS], strong[ROWS];
 static uint16_t rows[ROWS];
 static uint8_t merged[REDSTONE_MERGE_BYTES];
+static uint8_t kept[sizeof table];
+static uint16_t passes[ROWS];
 
 /* Where the stack was when the calls began. */
 static uint8_t *start;
@@ -58,6 +60,7 @@ static void *calls(void *unused) {
     accepted(redstone_redraw(profile, sizeof profile, table, sizeof table));
     accepted(redstone_supports(profile, sizeof profile, table, sizeof table, rows, ROWS));
     accepted(redstone_merge(table, sizeof table, table, sizeof table, 0, 0, 0, merged, sizeof merged));
+    accepted(redstone_clear(profile, sizeof profile, table, sizeof table, kept, sizeof kept, passes, ROWS));
     return unused;
 }
 
