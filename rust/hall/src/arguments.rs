@@ -8,7 +8,7 @@ use std::str::FromStr;
 use redstone::FARTHEST_OFFSET;
 use redstone_text::Word;
 
-use crate::command::{BY, Choice, Command, Failure, PROFILE, SWITCH, TICKS};
+use crate::command::{BY, Choice, Command, Failure, OUT, PROFILE, SWITCH, TICKS};
 use crate::input::is_standard_input;
 use crate::name::Position;
 use crate::run::Run;
@@ -20,12 +20,15 @@ pub struct Arguments {
     /// Those that are no options.
     pub operands: Vec<OsString>,
     options: Vec<(&'static str, OsString)>,
+    /// Whether the command knows `-o`.
+    takes_out: bool,
 }
 
 impl Arguments {
     /// Reads the words after a command's name.
     pub(crate) fn read(command: &Command, words: impl Iterator<Item = OsString>) -> Result<Self, Failure> {
-        let (mut arguments, mut only_operands) = (Self::default(), false);
+        let mut arguments = Self { takes_out: command.takes(&OUT), ..Self::default() };
+        let mut only_operands = false;
         let mut words = words.peekable();
         // A word that is another option is no value: it was left out.
         let is_option = |word: &OsString| {
@@ -86,7 +89,11 @@ impl Arguments {
             [] => Err(Failure::sentence(missing)),
             [_, second, ..] => {
                 let second = second.to_string_lossy();
-                Err(Failure::sentence(format!("{second} is one word too many: give one name")))
+                let meant = match self.takes_out && self.option(&OUT).is_none() {
+                    true => format!("did you mean {} {second}?", OUT.name),
+                    false => "give one name".to_owned(),
+                };
+                Err(Failure::sentence(format!("{second} is one word too many: {meant}")))
             }
         }
     }

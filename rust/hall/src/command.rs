@@ -132,14 +132,18 @@ impl From<io::Error> for Failure {
 }
 
 impl Command {
+    /// Whether it knows an option.
+    pub(crate) fn takes(&self, choice: &Choice) -> bool {
+        self.options.iter().any(|known| known.name == choice.name)
+    }
+
     /// The option of a name.
     pub(crate) fn choice(&self, name: &str) -> Result<&'static Choice, Failure> {
         if let Some(choice) = self.options.iter().find(|choice| choice.name == name) {
             return Ok(choice);
         }
         let start = format!("{name} is not an option of `hall {}`", self.name);
-        let takes_offset = self.options.iter().any(|choice| choice.name == BY.name);
-        if let Some(meant) = meant_by(name).filter(|_| takes_offset) {
+        if let Some(meant) = meant_by(name).filter(|_| self.takes(&BY)) {
             return Err(Failure::sentence(format!("{start}: {meant}")));
         }
         Err(Failure::sentence(match nearest(name, self.options.iter().map(|choice| choice.name)) {

@@ -104,7 +104,12 @@ impl Hall {
     /// The file and, where it has lines, the line of a row, as in `door.hall:12`.
     #[must_use]
     pub fn place(&self, row: usize) -> String {
-        match self.lines.get(row) {
+        self.place_of_line(self.lines.get(row).copied())
+    }
+
+    /// The file and, where there is one, a line.
+    pub(crate) fn place_of_line(&self, line: Option<usize>) -> String {
+        match line {
             Some(line) => format!("{}:{line}", self.name),
             None => self.name.clone(),
         }

@@ -28,6 +28,7 @@ mod progress;
 mod refused;
 mod run;
 mod switch;
+mod written;
 
 pub use chart::chart;
 pub use command::{Status, perform};

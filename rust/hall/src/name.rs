@@ -64,8 +64,13 @@ pub fn moved(position: Position, step: Position) -> Position {
     [0, 1, 2].map(|axis| position[axis].saturating_add(step[axis]))
 }
 
-/// A number and its noun, as in `1 block` and `2 blocks`.
+/// A number and its noun, as in `1 block`, `2 blocks` and `3 passes`.
 #[must_use]
 pub fn counted(number: usize, noun: &str) -> String {
-    format!("{number} {noun}{}", if number == 1 { "" } else { "s" })
+    let end = match number {
+        1 => "",
+        _ if noun.ends_with('s') => "es",
+        _ => "s",
+    };
+    format!("{number} {noun}{end}")
 }

@@ -72,11 +72,17 @@ pub(crate) fn tell_left_out(halls: &[Hall], why: &str, out: &mut dyn Write) -> R
 
 /// Says something of so many lines, once all is written; nothing of none.
 pub(crate) fn tell_lines(number: usize, what: &str, out: &mut dyn Write) -> Result<(), Failure> {
-    out.flush()?;
-    if number > 0 {
-        // It changes nothing that this cannot be said.
-        let _ = writeln!(io::stderr(), "hall: {} {what}.", counted(number, "line"));
+    if number == 0 {
+        return Ok(out.flush()?);
     }
+    tell(&format!("hall: {} {what}.\n", counted(number, "line")), out)
+}
+
+/// Says something on standard error, once all is written.
+pub(crate) fn tell(text: &str, out: &mut dyn Write) -> Result<(), Failure> {
+    out.flush()?;
+    // It changes nothing that this cannot be said.
+    let _ = io::stderr().write_all(text.as_bytes());
     Ok(())
 }
 

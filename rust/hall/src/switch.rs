@@ -17,6 +17,8 @@ pub struct Switch {
     pub position: Position,
     /// Whether it is on from then.
     pub on: bool,
+    /// The number of its line, from 1 on; none where it was given with `--switch`.
+    pub line: Option<usize>,
 }
 
 /// A switch and the word that its position was read from.
@@ -38,7 +40,7 @@ impl Switch {
         let position = place.position()?;
         let on = words.expect("on or off")?.one_of("a setting", SETTINGS)?;
         words.end()?;
-        Ok((Self { tick, position, on }, place))
+        Ok((Self { tick, position, on, line: Some(line.number) }, place))
     }
 
     /// Reads `4:0,1,0=on`.
@@ -50,6 +52,7 @@ impl Switch {
             tick: tick.number(0..=MOST_TICKS)?,
             position: place.position()?,
             on: setting.one_of("a setting", SETTINGS)?,
+            line: None,
         };
         Ok((switch, place))
     }

@@ -4,14 +4,15 @@ use std::collections::{BTreeMap, BTreeSet};
 use std::fmt::Write as _;
 use std::io::Write;
 
-use redstone::{Fault, Kind, MOST_ROWS, Refusal, clashes, merged, rows};
-use redstone_text::{Table, position_text, row_text};
+use redstone::{Fault, Kind, MOST_ROWS, Refusal, clashes, merged};
+use redstone_text::{position_text, row_text};
 
 use crate::arguments::Arguments;
 use crate::command::{BY, Command, Failure, OUT, PROFILE, Status};
 use crate::name::{Position, block_name, counted, find};
 use crate::output::{deliver, tell_lines};
 use crate::switch::Switch;
+use crate::written::{hall_text, section};
 use crate::{Hall, Refused, input};
 
 pub const COMMAND: Command = Command {
@@ -52,9 +53,7 @@ fn merged_text(first: &Hall, second: &Hall, offset: Position) -> Result<String, 
     let profile = one_profile(first, second)?;
     let table = merged(first.fresh.table(), second.fresh.table(), offset)
         .map_err(|refusal| Failure::Sentence(sentence(&refusal, first, second, offset)))?;
-    let rows = rows(&table).map_err(|fault| Failure::sentence(fault.to_string()))?;
-    let table = Table { profile: profile.to_vec(), rows };
-    Ok(format!("{table}{}", sections(first, second, offset)?))
+    hall_text(profile, &table, &sections(first, second, offset)?)
 }
 
 /// The profile of both halls. Where one lacks the bulb's byte, it has no bulbs either, and the other's is good for it.
@@ -134,15 +133,6 @@ fn lines(hall: &Hall, switches: &[Switch], offset: Position) -> Vec<String> {
     let expectations = hall.expectations.iter().filter(|expectation| expectation.position().is_some());
     let expectations = expectations.map(|expectation| expectation.moved(offset).as_line());
     switches.iter().map(Switch::as_line).chain(expectations).collect()
-}
-
-/// Lines under a comment, after an empty line.
-fn section(title: &str, lines: &[String]) -> String {
-    if lines.is_empty() {
-        return String::new();
-    }
-    // A file's name may have a line's end in it.
-    format!("\n# {}\n{}\n", title.replace(char::is_control, "?"), lines.join("\n"))
 }
 
 /// The switches of the second hall, moved, but for those that the first hall's own lines set as well. A block that one hall

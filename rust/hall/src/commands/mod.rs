@@ -3,6 +3,7 @@
 use crate::command::Command;
 
 mod check;
+mod clear;
 mod csv;
 mod levels;
 mod merge;
@@ -24,5 +25,6 @@ pub const COMMANDS: &[&Command] = &[
     &pack::COMMAND,
     &unpack::COMMAND,
     &merge::COMMAND,
+    &clear::COMMAND,
     &stream::COMMAND,
 ];

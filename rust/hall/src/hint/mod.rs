@@ -154,7 +154,7 @@ const RULES: &[Rule] = &[
     },
     Rule {
         number: 15,
-        sentence: "nothing holds it up, and it drops in the game",
+        sentence: "nothing holds it up, and it drops in the game: see `hall clear`",
         holds: |view, row| {
             view.lacks_floor(row) && !view.hangs_on_full_side(row) && !view.lies_on_piston(row)
         },

@@ -65,8 +65,8 @@ fn entries(document: &str) -> BTreeMap<u8, &str> {
 }
 
 /// Those that no hint is given of: what it takes is not in the table, or is rare.
-const WITHOUT: [u8; 23] =
-    [14, 26, 27, 28, 29, 30, 31, 32, 33, 37, 38, 39, 42, 43, 44, 48, 49, 51, 52, 53, 54, 55, 61];
+const WITHOUT: [u8; 24] =
+    [14, 26, 27, 28, 29, 30, 31, 32, 33, 37, 38, 39, 42, 43, 44, 48, 49, 51, 52, 53, 54, 55, 61, 62];
 
 #[test]
 fn the_tables_of_an_entry_give_its_hint() {

@@ -1,6 +1,7 @@
 //! The program `hall`, as it is called.
 
 mod check;
+mod clear;
 mod generated;
 mod hints;
 mod merge;

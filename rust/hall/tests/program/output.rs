@@ -10,9 +10,9 @@ fn shell(line: &str) -> (Option<i32>, String) {
     (done.status, done.err)
 }
 
-const COMMANDS: [&str; 6] = ["run", "levels", "check", "csv", "report", "unpack"];
+const COMMANDS: [&str; 7] = ["run", "levels", "check", "csv", "report", "unpack", "clear"];
 /// Those that know `-o`.
-const WRITERS: [&str; 5] = ["report", "csv", "pack", "unpack", "stream"];
+const WRITERS: [&str; 6] = ["report", "csv", "pack", "unpack", "clear", "stream"];
 
 #[test]
 fn a_full_disk() {

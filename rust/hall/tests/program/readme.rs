@@ -31,6 +31,14 @@ fn first_hall(test: &str, words: &str) -> Done {
     run(Command::new("sh").args(["-c", &line]).env("hall", env!("CARGO_BIN_EXE_hall")), b"")
 }
 
+/// Lines that call the program, run in a test's folder that has the samples.
+fn beside_halls(test: &str, lines: &str) -> Done {
+    let lines: Vec<_> = lines.lines().map(|line| format!("${line}")).collect();
+    let (folder, halls) = (folder(test), root().join("halls"));
+    let line = format!("cd {} && ln -s {} . && {}", folder.display(), halls.display(), lines.join(" && "));
+    run(Command::new("sh").args(["-c", &line]).env("hall", env!("CARGO_BIN_EXE_hall")), b"")
+}
+
 #[test]
 fn the_chart_is_that_of_a_new_hall() {
     let readme = readme();
@@ -60,13 +68,25 @@ fn the_chart_of_two_rooms_is_that_of_the_lines_before_it() {
     let readme = readme();
     let blocks = blocks(section(&readme));
     let at = blocks.iter().position(|block| block.starts_with("hall merge ")).expect("lines");
-    let lines: Vec<_> = blocks[at].lines().map(|line| format!("${line}")).collect();
-    let (folder, halls) = (folder("readme_rooms"), root().join("halls"));
-    let line = format!("cd {} && ln -s {} . && {}", folder.display(), halls.display(), lines.join(" && "));
-    let done = run(Command::new("sh").args(["-c", &line]).env("hall", env!("CARGO_BIN_EXE_hall")), b"");
+    let done = beside_halls("readme_rooms", blocks[at]);
     assert_eq!(done.status, Some(0), "{}", done.err);
     assert!(done.text().contains(blocks[at + 1]), "{}", done.text());
     assert!(done.text().starts_with("both.hall: 11 blocks, ") && readme.contains("8 blocks and 5 are 11."));
+}
+
+/// The lines that clear a room, what they list, of which some lines are left out, and what is said of the check.
+#[test]
+fn the_list_of_what_would_drop_is_that_of_the_lines_before_it() {
+    let readme = readme();
+    let blocks = blocks(section(&readme));
+    let at = blocks.iter().position(|block| block.starts_with("hall clear ")).expect("lines");
+    let done = beside_halls("readme_floor", blocks[at]);
+    assert_eq!((done.status, done.err.as_str()), (Some(1), ""));
+    let mut lines = done.text().lines();
+    for shown in blocks[at + 1].lines().filter(|line| *line != "..") {
+        assert!(lines.any(|line| line == shown), "{shown}\n{}", done.text());
+    }
+    assert!(lines.any(|line| line.contains(" lamp ") && line.ends_with(", given dark")), "{}", done.text());
 }
 
 #[test]

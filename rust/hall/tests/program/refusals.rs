@@ -20,7 +20,7 @@ fn packed(change: impl FnOnce(&mut Vec<u8>)) -> Vec<u8> {
 
 /// Asserts that every command gives this sentence of an input.
 fn assert_refused(input: &[u8], place: &str, sentence: &str) {
-    for command in ["run", "levels", "csv", "pack", "unpack", "stream"] {
+    for command in ["run", "levels", "csv", "pack", "unpack", "clear", "stream"] {
         let done = hall_with(&[command, "-"], input);
         assert_eq!((done.status, done.text()), (Some(2), ""), "{command}");
         assert_eq!(done.err, format!("hall: standard input:{place} {sentence}.\n"), "{command}");

@@ -5,7 +5,7 @@ use redstone::BENCH_PROFILE;
 use crate::support::{file, hall, samples};
 
 #[test]
-fn there_are_ten_halls_and_nothing_else() {
+fn there_are_eleven_halls_and_nothing_else() {
     let names = [
         "comparator-subtract",
         "fading-line",
@@ -17,6 +17,7 @@ fn there_are_ten_halls_and_nothing_else() {
         "bulbs/bulb-toggle",
         "rooms/lamp-room",
         "rooms/lever-room",
+        "imported/missing-floor",
     ];
     assert_eq!(samples(), names.map(|name| format!("halls/{name}.hall")));
 }

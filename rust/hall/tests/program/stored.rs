@@ -24,13 +24,17 @@ fn cases() -> Vec<(Vec<String>, String)> {
             ("report", "html"),
             ("pack", "bin"),
             ("unpack", "unpack.txt"),
+            ("clear", "clear.txt"),
+            ("clear -o -", "cleared.txt"),
         ] {
             cases.push((words(&format!("{command} {sample}")), format!("{name}.{end}")));
         }
     }
     cases.push((words(&format!("stream {}", bench_samples().join(" "))), "samples.stream.bin".to_owned()));
     cases.push((MERGED_ROOMS.map(str::to_owned).to_vec(), "rooms.merge.txt".to_owned()));
-    for command in ["new", "run", "levels", "check", "report", "csv", "pack", "unpack", "merge", "stream"] {
+    for command in
+        ["new", "run", "levels", "check", "report", "csv", "pack", "unpack", "merge", "clear", "stream"]
+    {
         cases.push((words(&format!("{command} --help")), format!("help-{command}.txt")));
     }
     cases.push((words("--help"), "help.txt".to_owned()));

@@ -54,12 +54,13 @@ pub fn run(command: &mut Command, input: &[u8]) -> Done {
 
 /// The sample halls, as in `halls/vault-door.hall`.
 pub fn samples() -> Vec<String> {
-    [bench_samples(), charging_samples(), names(BULBS), names(ROOMS)].concat()
+    [bench_samples(), charging_samples(), names(BULBS), names(ROOMS), names(IMPORTED)].concat()
 }
 
 /// Those of the bench profile without bulbs, as `halls/*.hall` names them.
 pub fn bench_samples() -> Vec<String> {
-    names("halls").into_iter().filter(|name| ![CHARGING, BULBS, ROOMS].contains(&name.as_str())).collect()
+    let folders = [CHARGING, BULBS, ROOMS, IMPORTED];
+    names("halls").into_iter().filter(|name| !folders.contains(&name.as_str())).collect()
 }
 
 /// Those of the bench profile with the value by which torches charge the block above.
@@ -70,6 +71,7 @@ pub fn charging_samples() -> Vec<String> {
 const CHARGING: &str = "halls/charging";
 const BULBS: &str = "halls/bulbs";
 const ROOMS: &str = "halls/rooms";
+const IMPORTED: &str = "halls/imported";
 
 /// Two rooms, and the offset by which the second is beside the first.
 pub const MERGED_ROOMS: [&str; 5] =

@@ -72,6 +72,33 @@ fn a_sentence_says_what_to_do() {
             &["merge", LAMP, "halls/slab-rise", "--by", "0,9,0"],
             "halls/slab-rise: there is no such file: did you mean halls/slab-rise.hall?",
         ),
+        (&["clera", LAMP], "there is no command `clera`: did you mean `hall clear`?"),
+        (&["clear"], "no hall is named: give a file, or - for standard input."),
+        (
+            &["clear", LAMP, "cleared.hall"],
+            "cleared.hall is one word too many: did you mean -o cleared.hall?",
+        ),
+        (&["clear", LAMP, "a.hall", "-o", "b.hall"], "a.hall is one word too many: give one name."),
+        (&["pack", LAMP, "lock.bin"], "lock.bin is one word too many: did you mean -o lock.bin?"),
+        (&["new", "door", "gate"], "gate is one word too many: give one name."),
+        (&["clear", LAMP, "-o"], "-o has no value: give -o FILE."),
+        (&["clear", LAMP, "-o", "a.hall", "-o", "b.hall"], "-o is given twice: give it once."),
+        (
+            &["clear", LAMP, "--ticks", "3"],
+            "--ticks is not an option of `hall clear`: see `hall clear --help`.",
+        ),
+        (
+            &["clear", LAMP, "-o", LAMP],
+            "halls/repeater-lock.hall is the hall itself: name another file after -o, or it would be lost.",
+        ),
+        (
+            &["clear", LAMP, "-o", "halls/none/a.hall"],
+            "halls/none/a.hall could not be written: there is no such folder.",
+        ),
+        (
+            &["clear", "halls/repeater-lock"],
+            "halls/repeater-lock: there is no such file: did you mean halls/repeater-lock.hall?",
+        ),
         (
             &["stream", "halls/slab-rise.hall", LAMP, "-o", LAMP],
             "halls/repeater-lock.hall is the hall itself: name another file after -o, or it would be lost.",
