@@ -1,4 +1,4 @@
-//! The editor's six calls on a table: the four that settle it, the support list and the redraw.
+//! Six of the editor's calls on a table: the four that settle it, the support list and the redraw.
 
 use redstone::STATE_BYTES;
 

@@ -40,6 +40,23 @@ impl Answer {
     }
 }
 
+/// The first thing in which an answer is not as expected.
+pub fn difference(expected: &Answer, actual: &Answer) -> String {
+    if expected.number != actual.number {
+        return format!("expected {}, and not {}", expected.number, actual.number);
+    }
+    let buffers = expected.buffers.iter().zip(&actual.buffers).enumerate();
+    let mut differences = buffers.filter(|(_, (expected, actual))| expected != actual);
+    let (buffer, (expected, actual)) = differences.next().expect("answers that differ");
+    let entries = expected.entries.iter().zip(&actual.entries);
+    match entries.enumerate().find(|(_, (expected, actual))| expected != actual) {
+        Some((at, (expected, actual))) => {
+            format!("expected {expected} in entry {at} of buffer {buffer}, and not {actual}")
+        }
+        None => format!("wrote outside of buffer {buffer}: {:?}", actual.outside),
+    }
+}
+
 /// The answer of an inner function, which the editor's call over it is to give, too.
 pub fn same([inner, editors]: [Answer; 2]) -> Answer {
     assert_eq!(inner, editors, "the inner function's answer, and the editor's call's");

@@ -2,6 +2,7 @@
 
 mod bulbs;
 mod comparators;
+mod leaning;
 mod rows;
 mod sorts;
 mod torches;
@@ -13,6 +14,7 @@ use redstone_text::row_text;
 
 use crate::random::Random;
 
+pub use leaning::{NEEDING, NOT_SUPPORTING, SUPPORTING, ring_places};
 pub use redstone::{BENCH_PROFILE, BENCH_PROFILE_WITH_BULB};
 
 /// The places of the torch's byte in a profile, and of the bulb's where there is one.
@@ -129,10 +131,20 @@ const SORTS: [(usize, Sort); 12] = [
     (1, ("1,024 rows", sorts::full_box)),
 ];
 
-/// The accepted case of a seed. Of six tables two have a profile without a byte for the bulb, and one more has no bulbs.
+/// The accepted case of a seed.
 pub fn case(seed: u64) -> Case {
+    of_sorts(&SORTS, seed)
+}
+
+/// The accepted case of a seed whose rows hold each other up, or would.
+pub fn leaning_case(seed: u64) -> Case {
+    of_sorts(&leaning::SORTS, seed)
+}
+
+/// Of six tables two have a profile without a byte for the bulb, and one more has no bulbs.
+fn of_sorts(sorts: &[(usize, Sort)], seed: u64) -> Case {
     let mut random = Random::new(seed);
-    let (sort, make) = random.weighted(&SORTS);
+    let (sort, make) = random.weighted(sorts);
     let rows = make(&mut random);
     let mut profile = profile(&mut random);
     let (rows, bytes) = match random.below(6) {

@@ -25,6 +25,11 @@ impl Entry for u16 {
     }
 }
 
+/// Writes entries from the front on, as far as there is room.
+pub fn fill<T>(out: &mut [T], entries: impl IntoIterator<Item = T>) {
+    out.iter_mut().zip(entries).for_each(|(out, entry)| *out = entry);
+}
+
 /// The guards on each side.
 pub const GUARDS: usize = 16;
 

@@ -1,11 +1,12 @@
 //! Holds the proved functions of the static libraries `probe` and `redstone`, and the programs `settle` and `month`,
 //! against the original Rust, and look-ups on rows in any order, what a torch charges, the light of bulbs, what is
-//! overdriven and two tables in one against document 02.
+//! overdriven, two tables in one and the rows that are cleared against document 02.
 
 pub mod bulb;
 #[cfg(not(no_original))]
 pub mod calls;
 pub mod checks;
+pub mod clear;
 pub mod compare;
 #[cfg(not(no_original))]
 pub mod connectivity;
@@ -13,6 +14,7 @@ pub mod damage;
 pub mod devices;
 pub mod differences;
 pub mod disorder;
+pub mod faults;
 pub mod generate;
 pub mod lent;
 pub mod look_up;

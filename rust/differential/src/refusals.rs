@@ -90,6 +90,10 @@ impl Written {
     pub fn state(entries: usize) -> Self {
         Self { entries, width: STATE_BYTES }
     }
+
+    pub fn table(entries: usize) -> Self {
+        Self { entries, width: ROW_BYTES }
+    }
 }
 
 /// A test: the number with which it refuses, and the row at fault, or 0 where no row is.

@@ -1,6 +1,6 @@
 //! The rows of packed tables, and positions.
 
-use redstone::{ROW_BYTES, Row};
+use redstone::{FARTHEST, ROW_BYTES, Row};
 
 /// x, y, z.
 pub type Position = [i32; 3];
@@ -27,6 +27,11 @@ pub fn coordinates(row: &[u8]) -> Position {
     [0, 4, 8].map(|at| i32::from_le_bytes([row[at], row[at + 1], row[at + 2], row[at + 3]]))
 }
 
+/// Whether no coordinate is past the farthest.
+pub fn is_on_ground(at: Position) -> bool {
+    at.iter().all(|along| (-FARTHEST..=FARTHEST).contains(along))
+}
+
 /// The position a step away.
 pub fn moved(from: Position, step: Position) -> Position {
     [0, 1, 2].map(|axis| from[axis] + step[axis])
@@ -35,6 +40,11 @@ pub fn moved(from: Position, step: Position) -> Position {
 /// The step back.
 pub fn back(step: Position) -> Position {
     step.map(|along| -along)
+}
+
+/// The step from a position to one at most one away on each axis, as a support offset.
+pub fn step(from: Position, to: Position) -> [i8; 3] {
+    moved(to, back(from)).map(|along| along as i8)
 }
 
 /// The row a step away.

@@ -155,6 +155,24 @@ row=0,0,0,15,0,0
 ```
 ";
 
+const CLEARED: &str = "\
+```table
+0,0,0 RedstoneWire shape=glass
+0,1,0 RedstoneWire support=0,-1,0
+2,0,0 Solid
+```
+```cleared
+cleared=0,0,0,1
+cleared=0,1,0,2
+```
+```table
+2,0,0 Solid
+```
+```cleared
+cleared=none
+```
+";
+
 #[cfg(not(no_original))]
 const OVERDRIVEN: &str = "\
 ```table
@@ -277,6 +295,15 @@ const FAULTS_IN_A_RUN: [Change; 12] = [
     ("row=0,0,0,15,0,0\n", ""),
 ];
 
+const FAULTS_WHEN_CLEARED: [Change; 6] = [
+    ("```cleared", "```clear"),
+    ("cleared=0,1,0,2", "cleared=0,1,0,1"),
+    ("cleared=0,1,0,2\n", ""),
+    ("cleared=0,1,0,2", "cleared=0,1,0,2\ncleared=2,0,0,0"),
+    ("cleared=none", "cleared=2,0,0,1"),
+    (" shape=glass", ""),
+];
+
 #[cfg(not(no_original))]
 const FAULTS_WHEN_OVERDRIVEN: [Change; 6] = [
     ("level=200", "level=15"),
@@ -332,9 +359,13 @@ fn faults_are_reported() {
     assert_each_is_reported(SETTLED, &FAULTS_WHEN_SETTLED, check_proved);
     assert_each_is_reported(PROFILED, &FAULTS_IN_A_PROFILE, check_proved);
     assert_each_is_reported(RUN, &FAULTS_IN_A_RUN, check_proved);
+    assert_each_is_reported(CLEARED, &FAULTS_WHEN_CLEARED, check_proved);
     assert_each_is_reported(ENTRIES, &FAULTS_IN_ENTRIES, check_proved);
     #[cfg(not(no_original))]
-    assert_each_is_reported(OVERDRIVEN, &FAULTS_WHEN_OVERDRIVEN, check_original);
+    {
+        assert_each_is_reported(CLEARED, &FAULTS_WHEN_CLEARED, check_original);
+        assert_each_is_reported(OVERDRIVEN, &FAULTS_WHEN_OVERDRIVEN, check_original);
+    }
     assert_each_is_reported(RISKS, &FAULTS_IN_RISKS, check_risks);
     assert!(named_tests("| what | no test |").is_err());
 }

@@ -5,7 +5,7 @@ use std::fmt::Debug;
 use differential::generate::{BENCH_PROFILE, Case};
 use differential::lent::{Entry, GUARDS, Lent};
 use differential::merge::OUT_BYTES;
-use differential::probe::{probe_support_issues, redstone_merge};
+use differential::probe::{probe_support_issues, redstone_clear, redstone_merge};
 use redstone::{Columns, Kind, Row};
 
 /// Writes each of these values for an entry to every place in and around buffers of some lengths.
@@ -91,4 +91,24 @@ fn a_merge_that_writes_outside_is_noticed() {
     assert_eq!(merged_outside(0, 0), []);
     assert_eq!(merged_outside(1, 0), [(-1, 0)]);
     assert_eq!(merged_outside(0, 2), [(32_766, 0), (32_767, 0)]);
+}
+
+/// The same of both buffers of a clearing that keeps the second of two rows: of its table and of its passes.
+fn cleared_outside(late: usize, early: usize) -> [Vec<(isize, u16)>; 2] {
+    let rows = [Row::new(Kind::Lever, [0; 3]), Row::new(Kind::Solid, [1, 0, 0])];
+    let case = Case::new("a lever in the air", BENCH_PROFILE, rows);
+    let mut kept = Lent::untouched(64 - late - early);
+    let mut passes = Lent::untouched(2 - late - early);
+    let lent_kept = &mut kept.with_guards()[GUARDS - late..][..64];
+    let lent_passes = &mut passes.with_guards()[GUARDS - late..][..2];
+    assert_eq!(redstone_clear(&case.profile, &case.table, lent_kept, lent_passes), 1);
+    [kept.returned().outside, passes.returned().outside]
+}
+
+#[test]
+fn a_clearing_that_writes_outside_is_noticed() {
+    assert_eq!(cleared_outside(0, 0), [vec![], vec![]]);
+    assert_eq!(cleared_outside(1, 0), [vec![(-1, 1)], vec![(-1, 1)]]);
+    assert_eq!(cleared_outside(0, 1), [vec![], vec![(1, 0)]]);
+    assert_eq!(cleared_outside(2, 0), [vec![(-2, 1), (-1, 0)], vec![(-2, 1), (-1, 0)]]);
 }

@@ -3,14 +3,15 @@
 use std::collections::BTreeMap;
 use std::fmt::{self, Display, Formatter};
 
-use differential::compare::{Answer, Answers};
-use differential::generate::{self, BENCH_PROFILE, BENCH_PROFILE_WITH_BULB, row_lines};
+use differential::clear::Clear;
+use differential::compare::{Answer, Answers, difference};
+use differential::generate::{self, BENCH_PROFILE, BENCH_PROFILE_WITH_BULB, Case, row_lines};
 use differential::merge::{
     Arrangement, MISREADINGS, Merge, ORDER, OUT, OUT_BYTES, Proved, READING, Reading, Trial,
     all_combinations, clashes, empty_tables, ends, far_offsets, fillings, generated, given_off_ground,
     most_rows, of_rows, offsets, out_lengths, single_bytes, small_pairs,
 };
-use differential::probe::redstone_merge;
+use differential::probe::{Probe, redstone_merge};
 use differential::random::Random;
 use differential::refusals::check;
 use differential::suite::{print, setting};
@@ -55,23 +56,6 @@ impl Display for Compared {
             writeln!(f, "  {calls:>10} {sort}")?;
         }
         Ok(())
-    }
-}
-
-/// The first thing in which an answer is not as expected.
-fn difference(expected: &Answer, actual: &Answer) -> String {
-    if expected.number != actual.number {
-        return format!("expected {}, and not {}", expected.number, actual.number);
-    }
-    let buffers = expected.buffers.iter().zip(&actual.buffers).enumerate();
-    let mut differences = buffers.filter(|(_, (expected, actual))| expected != actual);
-    let (buffer, (expected, actual)) = differences.next().expect("answers that differ");
-    let entries = expected.entries.iter().zip(&actual.entries);
-    match entries.enumerate().find(|(_, (expected, actual))| expected != actual) {
-        Some((at, (expected, actual))) => {
-            format!("expected {expected} in byte {at} of buffer {buffer}, and not {actual}")
-        }
-        None => format!("wrote outside of buffer {buffer}: {:?}", actual.outside),
     }
 }
 
@@ -279,8 +263,8 @@ fn every_row_is_in_the_result_and_nothing_else_is() {
     assert!(results > 1_000, "{results} results");
 }
 
-/// Every call takes the result by a profile by which it takes both tables: fresh, tick, switch, settle, the support list and
-/// the redraw.
+/// Every call takes the result by a profile by which it takes both tables: fresh, tick, switch, settle, the support list,
+/// the redraw and the clearing.
 #[test]
 fn every_call_takes_the_result() {
     let (mut by_13, mut by_14) = (0, 0);
@@ -291,10 +275,12 @@ fn every_call_takes_the_result() {
             }
             let called = call_each(profile, &result);
             assert!(called.is_ok(), "{called:?} by {profile:?}\n{merge}");
+            let case = Case::of_bytes(profile, &result);
+            assert_eq!(Probe(&case).answer(&Clear::on(&case)).refusal(), None, "by {profile:?}\n{merge}");
             *if profile.len() == 13 { &mut by_13 } else { &mut by_14 } += 1;
         }
     }
-    print(&format!("merge, six calls on the result: {by_13} with 13 bytes of profile, {by_14} with 14"));
+    print(&format!("merge, seven calls on the result: {by_13} with 13 bytes of profile, {by_14} with 14"));
     assert!(by_13 > 500 && by_14 > by_13, "{by_13} and {by_14} results");
 }
 

@@ -35,6 +35,7 @@ fn answers(written: &Written, rows: &[Row], mut bench: impl Bench) -> Option<Vec
         (Sort::Run(turns), Ok(fresh)) => run(turns, rows, fresh, bench),
         (Sort::Redrawn, Ok(_)) => redrawn(&bench.redrawn()),
         (Sort::Unsupported, Ok(_)) => unsupported(rows, &bench.unsupported()),
+        (Sort::Cleared, Ok(_)) => cleared(rows, &bench.passes()),
     })
 }
 
@@ -90,9 +91,20 @@ fn redrawn(table: &[u8]) -> Vec<String> {
 }
 
 fn unsupported(rows: &[Row], listed: &[usize]) -> Vec<String> {
-    let line = |row: &usize| format!("unsupported={}", position_text(rows[*row].position()));
-    match listed {
-        [] => vec!["unsupported=none".to_owned()],
-        _ => listed.iter().map(line).collect(),
+    let at = |row: &usize| position_text(rows[*row].position());
+    named("unsupported", listed.iter().map(at).collect())
+}
+
+fn cleared(rows: &[Row], passes: &[u16]) -> Vec<String> {
+    let gone = rows.iter().zip(passes).filter(|(_, pass)| **pass > 0);
+    let at = |(row, pass): (&Row, &u16)| format!("{},{pass}", position_text(row.position()));
+    named("cleared", gone.map(at).collect())
+}
+
+/// A line for each, or one that says that there is none.
+fn named(word: &str, mut each: Vec<String>) -> Vec<String> {
+    if each.is_empty() {
+        each.push("none".to_owned());
     }
+    each.iter().map(|what| format!("{word}={what}")).collect()
 }

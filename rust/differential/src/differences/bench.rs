@@ -13,6 +13,8 @@ pub trait Bench {
     fn redrawn(&self) -> Vec<u8>;
     /// The numbers of the rows that the support list names.
     fn unsupported(&self) -> Vec<usize>;
+    /// The pass in which clearing takes out each row, or 0.
+    fn passes(&self) -> Vec<u16>;
     /// What the original settles the fresh devices to, be the table refused or not. The library cannot say.
     fn unrefused(&self) -> Option<Settled>;
 }

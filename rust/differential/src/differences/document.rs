@@ -44,6 +44,8 @@ pub enum Sort {
     Redrawn,
     /// The rows of the support list.
     Unsupported,
+    /// The rows that clearing takes out, pass by pass.
+    Cleared,
     /// What the original settles to, whatever the bench refuses.
     Original,
 }
@@ -190,6 +192,7 @@ fn written<'a>(Block { word, lines }: Block<'a>, table: &Table) -> Result<Writte
         "run" => Sort::Run(run(word, &lines, table)?),
         "redrawn" => Sort::Redrawn,
         "unsupported" => Sort::Unsupported,
+        "cleared" => Sort::Cleared,
         "original" => Sort::Original,
         other => return Err(Fault::at(word, format!("{other:?} is no word for a block"))),
     };

@@ -2,6 +2,7 @@
 
 use super::bench::{Bench, Settled};
 use crate::bulb::{READING, Reading};
+use crate::clear;
 use crate::compare::Answers;
 use crate::oracle::Oracle;
 use crate::redstone::{OriginalRun, SIGNAL, STATE, STRONG, Step, WEAK};
@@ -49,6 +50,10 @@ impl Bench for Original<'_> {
         let answer = self.oracle.answer(&WorldQuery::SupportIssues { entries: self.oracle.rows.len() });
         let listed = &answer.buffers[0].entries[..answer.number as usize];
         listed.iter().map(|row| usize::from(*row)).collect()
+    }
+
+    fn passes(&self) -> Vec<u16> {
+        clear::passes(self.oracle, self.oracle.case)
     }
 
     fn unrefused(&self) -> Option<Settled> {

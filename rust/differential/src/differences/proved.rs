@@ -3,7 +3,9 @@
 use ::redstone::Circuit;
 
 use super::bench::{Bench, Settled};
+use crate::clear;
 use crate::generate::Case;
+use crate::probe::Probe;
 use crate::refusals::Refusal;
 use crate::table::Position;
 
@@ -63,6 +65,11 @@ impl Bench for Proved {
 
     fn unsupported(&self) -> Vec<usize> {
         self.circuit().unsupported().expect(NOT_REFUSED)
+    }
+
+    fn passes(&self) -> Vec<u16> {
+        let case = Case::of_bytes(self.circuit().profile(), self.circuit().table());
+        clear::passes(&Probe(&case), &case)
     }
 
     fn unrefused(&self) -> Option<Settled> {

@@ -6,7 +6,7 @@ use redstone::{Arm, FARTHEST, Facing, Kind, Row};
 
 use super::rows::{any_delay, any_row, device, dust, floor, source};
 use crate::random::Random;
-use crate::table::{ABOVE, HORIZONTAL, Position, UNDER, moved};
+use crate::table::{ABOVE, HORIZONTAL, Position, UNDER, is_on_ground, moved};
 
 /// Rows by position: in the table's order, one to a position, none out of range.
 #[derive(Default)]
@@ -14,7 +14,7 @@ pub struct Plan(BTreeMap<Position, Row>);
 
 impl Plan {
     pub fn put(&mut self, row: Row) {
-        if row.position().iter().all(|at| (-FARTHEST..=FARTHEST).contains(at)) {
+        if is_on_ground(row.position()) {
             self.0.insert(row.position(), row);
         }
     }

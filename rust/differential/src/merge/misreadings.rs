@@ -4,9 +4,10 @@ use redstone::{Kind, ROW_BYTES};
 
 use super::Merge;
 use super::reading::{
-    Asked, ORDER, OUT_BYTES, Placed, READING, Reading, Test, far_offset, fault_of_table, fill, off_ground,
-    packed, placed, shared, union,
+    Asked, ORDER, OUT_BYTES, Placed, READING, Reading, Test, far_offset, fault_of_table, off_ground, packed,
+    placed, shared, union,
 };
+use crate::lent::fill;
 use crate::refusals::{MOST_ROWS, at_no_row};
 use crate::table::Position;
 
@@ -124,7 +125,7 @@ pub const MISREADINGS: [Misreading; 82] = [
     }),
     misreading("a refused call clears the output", |reading| reading.on_refusal = |out| out.fill(0)),
     misreading("a refused call clears a byte of the output", |reading| {
-        reading.on_refusal = |out| fill(out, [0].into_iter());
+        reading.on_refusal = |out| fill(out, [0]);
     }),
     // The tests of the tables.
     misreading("a bulb row is bad in the first", |reading| {

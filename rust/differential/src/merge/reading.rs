@@ -6,6 +6,7 @@ use redstone::ROW_BYTES;
 
 use super::Merge;
 use crate::generate::BENCH_PROFILE_WITH_BULB;
+use crate::lent::fill;
 use crate::refusals::{self, FARTHEST, MOST_ROWS, Refusal, at_no_row};
 use crate::table::{Position, coordinates};
 
@@ -165,9 +166,4 @@ pub fn packed((position, bytes): &Placed) -> [u8; ROW_BYTES] {
     }
     row[POSITION_BYTES..].copy_from_slice(bytes);
     row
-}
-
-/// Writes bytes from the front on, as far as there is room.
-pub fn fill(out: &mut [u8], bytes: impl Iterator<Item = u8>) {
-    out.iter_mut().zip(bytes).for_each(|(out, byte)| *out = byte);
 }
