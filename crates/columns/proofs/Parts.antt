@@ -1,15 +1,18 @@
 -- Laws of rows of one width that stand one after the other, and of the loop that lends each to be written.
 -- Assumes nothing.
-use mathlib.Core.Path.{_≡_, ap, sym, _∙_}
+use mathlib.Core.Path.{_≡_, refl, ap, sym, _∙_}
 use mathlib.Core.List.{List, [], _++_, append-assoc, append-nil}
-use Prim.Native.Nat.{ℕ, zero, suc, _+_, _*_, _≤_, _<_, zero-le}
-use native.Mathlib.Nat.{zero-mul, suc-mul, add-zero, not-suc-le-zero, zero-add}
+use mathlib.Core.Logic.{by-cases}
+use Prim.Native.Nat.{ℕ, zero, suc, _+_, _*_, _-_, _≤_, _<_, zero-le}
+use native.Mathlib.Decide.{decLt}
+use native.Mathlib.Nat.{zero-mul, suc-mul, add-zero, not-suc-le-zero, zero-add, mul-le-mul-right}
 use native.Mathlib.Numerals.{add-one}
 use native.Mathlib.Omega.{arith}
-use lib.ListN.{length, getD, drop, length-append, length-drop}
-use lib.Seq.{length-take-le, take-at, drop-at, drop-drop, getD-take, getD-drop, drop-length}
+use lib.ListN.{length, getD, take, drop, set, length-append, length-drop, take-append-drop}
+use lib.Seq.{length-take-le, take-at, drop-at, drop-drop, getD-take, getD-drop, drop-length, take-set-le, take-set-lt, drop-set-lt, drop-set-add}
 use borrow.Rule.Slice.PartMut.{putMid}
 use Rattle.columns.specs.Column.{part, concatRowsFrom, concatRows}
+use Rattle.columns.proofs.Members.{none-in}
 
 -- a row of a list that is long enough is whole
 pub length-part : (w : ℕ) (s : List ℕ) (i : ℕ) → i * w + w ≤ length s → length (part w s i) ≡ w
@@ -77,6 +80,48 @@ module _ (w : ℕ) (f : ℕ → List ℕ) where
   -- entry b of row j of the rows joined
   pub concatRows-at : (n : ℕ) → ((k : ℕ) → k < n → length (f k) ≡ w) → (j b : ℕ) → j < n → b < w → getD (concatRows n f) (j * w + b) 0 ≡ getD (f j) b 0
   concatRows-at n h j b l m = sym (part-at w (concatRows n f) j b m) ∙ ap (λ r. getD r b 0) (part-concatRows n h j l)
+
+  rows-from : (n i : ℕ) (s : List ℕ) → length s ≡ n * w → ((k : ℕ) → k < n → part w s k ≡ f (i + k)) → s ≡ concatRowsFrom i n f
+  unfolding concatRowsFrom
+  rows-from zero i s l h = none-in s (l ∙ zero-mul w)
+  rows-from (suc n) i s l h =
+      let long : length s ≡ w + n * w = l ∙ suc-mul n w ∙ omega arith in
+      let first : take w s ≡ f i = rw (zero-mul w, add-zero i) at (h 0 (omega arith)) in
+      let rest : drop w s ≡ concatRowsFrom (suc i) n f =
+      rows-from n (suc i) (drop w s)
+      (rw length-drop (omega arith))
+      (λ k m.
+      let later : w + k * w ≡ suc k * w = omega (arith, suc-mul k w) in
+      let next : i + suc k ≡ suc i + k = omega arith in
+      ap (take w) (drop-drop (k * w) w s ∙ ap (λ a. drop a s) later) ∙ h (suc k) (omega arith) ∙ ap f next) in
+      sym (take-append-drop w s) ∙ rw (first, rest) refl
+
+  -- a list whose rows are these is these rows, joined
+  pub is-concatRows : (n : ℕ) (s : List ℕ) → length s ≡ n * w → ((k : ℕ) → k < n → part w s k ≡ f k) → s ≡ concatRows n f
+  is-concatRows n s l h = rows-from n 0 s l (λ k m. h k m ∙ ap f (sym (zero-add k)))
+
+-- ---- a list in which entry b of row j is written
+
+module _ (w : ℕ) (s : List ℕ) (j b v : ℕ) (inside : b < w) where
+  pub part-set-own : part w (set s (j * w + b) v) j ≡ set (part w s j) b v
+  part-set-own = ap (take w) (drop-set-add (j * w) s b v) ∙ take-set-lt w (drop (j * w) s) b v inside
+
+  pub part-set-other : (i : ℕ) → ¬ (i ≡ j) → part w (set s (j * w + b) v) i ≡ part w s i
+  part-set-other i n = by-cases (decLt i j) before after
+    where
+      before : i < j → part w (set s (j * w + b) v) i ≡ part w s i
+      before l =
+          let past : i * w + w ≤ j * w = omega (arith, suc-mul i w, mul-le-mul-right w l) in
+          let at : j * w + b ≡ i * w + (j * w + b - i * w) = omega arith in
+          ap (λ k. take w (drop (i * w) (set s k v))) at
+          ∙ ap (take w) (drop-set-add (i * w) s (j * w + b - i * w) v)
+          ∙ take-set-le w (drop (i * w) s) (j * w + b - i * w) v (omega arith)
+
+      after : (i < j → ⊥) → part w (set s (j * w + b) v) i ≡ part w s i
+      after g =
+          let later : suc j ≤ i = omega arith in
+          let past : j * w + w ≤ i * w = omega (arith, suc-mul j w, mul-le-mul-right w later) in
+          ap (take w) (drop-set-lt (i * w) s (j * w + b) v (omega arith))
 
 -- ---- a loop that lends each row of s to be written: after i rows the list is the i new rows and the rest of s
 

@@ -55,7 +55,7 @@ module _ {t u : Bytes} (a : Alike t u) where
 
   pub everywhere : AlikeOver Everywhere t u
   everywhere =
-      rows-alike t u same-rows same-place (λ i _ _. record { kind = same-kind i; facing = same-facing i; shape = a .agree i 28 (inr refl) })
+      rows-alike t u same-rows (λ i _. same-place i) (λ i _ _. record { kind = same-kind i; facing = same-facing i; shape = a .agree i 28 (inr refl) })
 
   pub same-around : (p : Bytes) (q : Pos) → SameTraits p t u q
   same-around p q = around-over everywhere p q (all-hold q)

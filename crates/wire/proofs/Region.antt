@@ -43,7 +43,7 @@ pub record Holds (R : Pos → Type 0) (q : Pos) : Type 0 where
   pub side-under : (f : ℕ) → isHorizontal f ≡ true → R (below (beside q f))
 
 -- tables whose rows have the same positions are alike over a region where the rows that stand in it have the same blocks
-pub rows-alike : {R : Pos → Type 0} (t u : Bytes) → rows t ≡ rows u → ((i : ℕ) → posOf t i ≡ posOf u i)
+pub rows-alike : {R : Pos → Type 0} (t u : Bytes) → rows t ≡ rows u → ((i : ℕ) → i < rows t → posOf t i ≡ posOf u i)
     → ((i : ℕ) → i < rows t → R (posOf t i) → SameBlock t u i i) → AlikeOver R t u
 rows-alike {R} t u same-rows places blocks = record { at = λ q r. rw (← same-find t u same-rows places q) (go q r (find t q) refl) }
   where

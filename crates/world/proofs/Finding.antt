@@ -1,6 +1,6 @@
 -- Laws of the look-up.
 -- Assumes nothing.
-use mathlib.Core.Path.{_≡_, refl, sym, _∙_}
+use mathlib.Core.Path.{_≡_, refl, ap, sym, _∙_}
 use mathlib.Core.Bool.{Bool, true, false, not, true≢false}
 use mathlib.Core.Logic.{⊎-elim, by-cases}
 use Prim.Native.Nat.{ℕ, zero, suc, _+_, _-_, _≤_, _<_}
@@ -10,9 +10,9 @@ use borrow.Author.Tests.{not-true, not-false}
 use Rattle.columns.specs.Column.{Bytes}
 use Rattle.columns.specs.declared.Found.{Found}
 use Rattle.columns.specs.declared.Found.the-variants.{At, Nothing}
-use Rattle.columns.specs.First.{foundIf, firstFrom, onFound}
+use Rattle.columns.specs.First.{foundIf, firstFrom}
 use Rattle.columns.proofs.Truth.{refuted}
-use Rattle.columns.proofs.First.{IsFirst, first-at, at-first, first-none, none-first}
+use Rattle.columns.proofs.First.{IsFirst, first-at, at-first, first-none, none-first, first-same}
 use Rattle.places.specs.declared.Pos.{Pos}
 use Rattle.places.specs.Places.{samePos, before}
 use Rattle.places.proofs.Order.{samePos-true, samePos-refl, before-irrefl, at-or-past, not-before-trans}
@@ -71,9 +71,18 @@ find-first t q k h stands earlier =
     rw (first, stands, samePos-refl q)
 
 -- tables whose rows have the same positions find the same
-pub same-find : (t u : Bytes) → rows t ≡ rows u → ((i : ℕ) → posOf t i ≡ posOf u i) → (q : Pos) → find t q ≡ find u q
+pub same-find : (t u : Bytes) → rows t ≡ rows u → ((i : ℕ) → i < rows t → posOf t i ≡ posOf u i) → (q : Pos) → find t q ≡ find u q
 unfolding find firstAtOrPast
-same-find t u same-rows places q = λ x. onFound (λ i. foundIf (samePos (places i x) q) i Nothing) Nothing (firstFrom (λ i. not (before (places i x) q)) (same-rows x) 0)
+same-find t u same-rows places q = ap (ifStanding t q) firsts ∙ go (firstFrom (isAtOrPast u q) (rows u) 0) refl
+  where
+    firsts : firstFrom (isAtOrPast t q) (rows t) 0 ≡ firstFrom (isAtOrPast u q) (rows u) 0
+    firsts =
+        first-same (isAtOrPast t q) (isAtOrPast u q) (rows t) 0 (λ k _ l. ap (λ r. not (before r q)) (places k (omega arith)))
+        ∙ ap (λ n. firstFrom (isAtOrPast u q) n 0) same-rows
+
+    go : (x : Found) → firstFrom (isAtOrPast u q) (rows u) 0 ≡ x → ifStanding t q x ≡ ifStanding u q x
+    go Nothing e = refl
+    go (At k) e = ap (λ r. foundIf (samePos r q) k Nothing) (places k (omega (arith, first-at (isAtOrPast u q) (rows u) 0 k e .inside, same-rows)))
 
 -- "its loop is to end at the first row at or past the position": what comes after such a row makes no difference
 pub find-ends : (t u : Bytes) (q : Pos) (k : ℕ) → k < rows t → k < rows u → isAtOrPast t q k ≡ true → ((i : ℕ) → i ≤ k → posOf t i ≡ posOf u i) → find t q ≡ find u q
