@@ -14,7 +14,7 @@ use Rattle.places.specs.Places.{East, cell}
 use Rattle.world.specs.Rows.{rows}
 use Rattle.refusals.specs.Check.{answerOf, written}
 use Rattle.wire.specs.Transfer.{dustTransfer, transferNumber}
-use Rattle.redraw.specs.Redraw.{updateWireShapes}
+use Rattle.redrawing.specs.Drawn.{updateWireShapes}
 use Rattle.electrical.specs.Answer.{roundsOf, settled, checkSettle}
 use Rattle.states.specs.Row.{deviceOf, togglesOf, candidateOf, delayOf, bitsSet}
 use Rattle.updates.specs.State.{sixteen, freshDevices, freshState}

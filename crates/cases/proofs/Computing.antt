@@ -24,7 +24,7 @@ use Rattle.clear.specs.Clear.{checkClear}
 use Rattle.connectivity.specs.Ports.{ahead, outputOf, inputOf, across, sidesOf}
 use Rattle.arms.specs.Arms.{connects, componentConnects, joins, rises, drops, inferPast, inferWireConnection, armOf, hasArm}
 use Rattle.wire.specs.Transfer.{fitsHorizontal, fitsRise, fitsFall, fits, ruleAlong, firstRule, transferBy, dustTransfer, transmitsBy}
-use Rattle.redraw.specs.Redraw.{entryOf, entriesOf, withOpposite, drawn, redrawnRow, updateWireShapes}
+use Rattle.redrawing.specs.Drawn.{entryOf, entriesOf, withOpposite, drawn, redrawnRow, updateWireShapes}
 use Rattle.emitted.specs.Emitted.{goodDevice, checkDevices, switchLevel, emittedLevel, emitted}
 use Rattle.edges.specs.Edges.{outputsTo, isSupportOf, isNextToRedstoneBlock, isOverTorch, emittedToStrong, strongToWeak, armTo, alongArm, touches, feeds, dustToWeakBy, emittedToDustBy, strongToDustBy, networkOf}
 use Rattle.electrical.specs.Answer.{roundsOf, settled, checkCall, checkSettle}

@@ -8,7 +8,8 @@ use Rattle.refusals.specs.Check.{checkInput}
 use Rattle.refusals.specs.Answers.{ofInput, Tells}
 use Rattle.refusals.proofs.Gives.{input-gives}
 use Rattle.refusals.proofs.Tells.{tells}
-use Rattle.redraw.specs.Redraw.{updateWireShapes, Redraws}
+use Rattle.redrawing.specs.Drawn.{updateWireShapes}
+use Rattle.redraw.specs.Redraw.{Redraws}
 
 -- 0 where it has drawn the arms anew, or 65,536 times the number plus the row
 pub redraw-tells : {p t t′ : Bytes} {r : ℕ} → Redraws p t t′ r → Tells ofInput (checkInput p t) r ((r ≡ 0) × (t′ ≡ updateWireShapes p t)) (t′ ≡ t)

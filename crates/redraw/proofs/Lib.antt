@@ -1,6 +1,3 @@
--- Laws of redrawn tables.
-pub mod Rows
-pub mod Redrawn
-pub mod Accepted
+-- Laws of the loop over the rows, and what the answer tells.
+pub mod Written
 pub mod Answers
-pub mod Bulbs

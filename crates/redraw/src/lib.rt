@@ -3,6 +3,7 @@ use arms::infer_wire_connection;
 use blocks::kind;
 use places::Facing;
 use places::Pos;
+use redrawing::Arms;
 use refusals::Checked;
 use traits::ARM_NONE;
 use traits::ARM_SIDE;
@@ -13,15 +14,8 @@ ghost use lib.Dec.{eqb};
 ghost use lib.ListN.{length};
 ghost use borrow.Rule.Slice.PartMut.{putMid};
 ghost use Rattle.world.specs.Rows.{rows};
-ghost use Rattle.redraw.specs.Redraw.{entryOf, entriesOf, counted, left, added, withOpposite, drawn, redrawnRow, updateWireShapes, Redraws};
-
-// The arms of a dust as its row stores them: 0 no entry, 2 Side, 3 Up.
-struct Arms {
-    north: u8,
-    east: u8,
-    south: u8,
-    west: u8,
-}
+ghost use Rattle.redrawing.specs.Drawn.{entryOf, entriesOf, counted, entriesLeft, added, withOpposite, drawn, redrawnRow, updateWireShapes};
+ghost use Rattle.redraw.specs.Redraw.{Redraws};
 
 // The inferred arm, or no entry where it is None.
 fn entry_of(profile: &[u8], table: &[u8], pos: Pos, facing: u8) -> u8
@@ -55,7 +49,7 @@ fn counted(entry: u8) -> u8
 
 // Whether exactly one entry is left.
 fn is_alone(arms: Arms) -> bool
-    ensures { λ r. ⌜ r ≡ eqb (left arms) 1 ⌝ }
+    ensures { λ r. ⌜ r ≡ eqb (entriesLeft arms) 1 ⌝ }
 {
     counted(arms.north) + counted(arms.east) + counted(arms.south) + counted(arms.west) == 1
 }

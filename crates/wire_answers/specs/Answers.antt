@@ -8,7 +8,7 @@ use Rattle.places.specs.declared.Pos.{Pos}
 use Rattle.refusals.specs.Check.{checkInput, answerOf, written}
 use Rattle.arms.specs.Arms.{inferWireConnection, resolvedWireConnection}
 use Rattle.wire.specs.Transfer.{dustTransfer, transferNumber}
-use Rattle.redraw.specs.Redraw.{updateWireShapes}
+use Rattle.redrawing.specs.Drawn.{updateWireShapes}
 use Rattle.probe.specs.Numbers.{knownFacing}
 use Rattle.records.specs.Record.{isSmall}
 

@@ -3,7 +3,7 @@ use mathlib.Core.Path.{refl}
 use native.Mathlib.Omega.{arith}
 use lib.ListN.{length-set}
 use borrow.Author.Needs.{needs}
-use Rattle.redraw.specs.Redraw.{drawn}
+use Rattle.redrawing.specs.Drawn.{drawn}
 use Rattle.redraw.proofs.draw.Statement.{statement}
 use Rattle.redraw.proofs.draw.Tie as tie
 

@@ -1,6 +1,6 @@
 -- `redraw::entries_of` meets its contract. Assumes nothing.
 use borrow.Author.Needs.{needs}
-use Rattle.redraw.specs.Redraw.{entriesOf}
+use Rattle.redrawing.specs.Drawn.{entriesOf}
 use Rattle.redraw.proofs.entries_of.Statement.{statement}
 use Rattle.redraw.proofs.entries_of.Tie as tie
 

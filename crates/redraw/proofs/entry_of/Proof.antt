@@ -1,7 +1,7 @@
 -- `redraw::entry_of` meets its contract. Assumes nothing.
 use borrow.Author.Tests.{eq-eqb, ne-eqb}
 use borrow.Author.Needs.{needs}
-use Rattle.redraw.specs.Redraw.{entryOf}
+use Rattle.redrawing.specs.Drawn.{entryOf}
 use Rattle.redraw.proofs.entry_of.Statement.{statement}
 use Rattle.redraw.proofs.entry_of.Tie as tie
 

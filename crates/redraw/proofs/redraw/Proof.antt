@@ -5,8 +5,9 @@ use native.Mathlib.Omega.{arith}
 use lib.ListN.{length}
 use borrow.Author.Needs.{needs}
 use Rattle.columns.proofs.Parts.{Written, written-none, written-more, written-all}
-use Rattle.redraw.specs.Redraw.{redrawnRow, updateWireShapes}
-use Rattle.redraw.proofs.Rows.{length-row, half-row}
+use Rattle.redrawing.specs.Drawn.{redrawnRow, updateWireShapes}
+use Rattle.redrawing.proofs.Rows.{length-row}
+use Rattle.redraw.proofs.Written.{half-row}
 use Rattle.redraw.proofs.redraw.Statement.{statement}
 use Rattle.redraw.proofs.redraw.Tie as tie
 

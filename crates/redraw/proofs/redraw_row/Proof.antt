@@ -6,7 +6,7 @@ use borrow.Author.Tests.{eq-eqb, ne-eqb}
 use borrow.Rule.Slice.PartMut.{putMid, put-same}
 use borrow.Author.Needs.{needs}
 use Rattle.columns.specs.Column.{part}
-use Rattle.redraw.specs.Redraw.{withOpposite, drawn, redrawnRow}
+use Rattle.redrawing.specs.Drawn.{withOpposite, drawn, redrawnRow}
 use Rattle.redraw.proofs.redraw_row.Statement.{statement}
 use Rattle.redraw.proofs.redraw_row.Tie as tie
 

@@ -1,6 +1,6 @@
 -- `redraw::with_opposite` meets its contract. Assumes nothing.
 use borrow.Author.Needs.{needs}
-use Rattle.redraw.specs.Redraw.{withOpposite}
+use Rattle.redrawing.specs.Drawn.{withOpposite}
 use Rattle.redraw.proofs.with_opposite.Statement.{statement}
 use Rattle.redraw.proofs.with_opposite.Tie as tie
 

@@ -6,8 +6,7 @@ use mathlib.Core.List.{[], _∷_}
 use Prim.Native.Nat.{ℕ, _*_, _≤_, _<_}
 use native.Mathlib.Omega.{arith}
 use lib.Dec.{eqb}
-use lib.ListN.{length, getD, set, length-set}
-use lib.Seq.{getD-set-same, getD-set-other}
+use lib.ListN.{length, getD}
 use borrow.Author.Tests.{le-leb}
 use Rattle.blocks.specs.Kind.{oneOf}
 use Rattle.blocks.specs.Profile.{supportsComponents}
@@ -28,10 +27,10 @@ use Rattle.refusals.specs.Check.{IsAccepted}
 use Rattle.refusals.proofs.Accepted.{accepted-input}
 use Rattle.refusals.proofs.Again.{Changes, accepted-again}
 use Rattle.arms.specs.Arms.{joins, rises, drops, inferPast, inferWireConnection}
-use Rattle.redraw.specs.declared.Arms.{Arms}
-use Rattle.redraw.specs.Redraw.{entryOf, entriesOf, left, added, withOpposite, drawn, redrawnRow, updateWireShapes}
-use Rattle.redraw.proofs.Rows.{isArmByte, by-kind}
-use Rattle.redraw.proofs.Redrawn.{redrawn-keeps, redrawn-alike, redrawn-at}
+use Rattle.redrawing.specs.declared.Arms.{Arms}
+use Rattle.redrawing.specs.Drawn.{entryOf, entriesOf, entriesLeft, added, withOpposite, drawn, redrawnRow, updateWireShapes}
+use Rattle.redrawing.proofs.Rows.{isArmByte, HasArms, drawn-arms, by-kind}
+use Rattle.redrawing.proofs.Redrawn.{redrawn-long, every-kept, redrawn-at}
 
 -- ---- an entry is at most 3
 
@@ -96,55 +95,15 @@ small-opposite a s =
       west = small (a .east) (a .west) (s .west);
     }
   where
-    small : (back own : ℕ) → own ≤ 3 → added (eqb (left a) 1) back own ≤ 3
-    small back own h = small-of (eqb (left a) 1 && not (eqb back 0)) ArmSide own (omega arith) h
+    small : (back own : ℕ) → own ≤ 3 → added (eqb (entriesLeft a) 1) back own ≤ 3
+    small back own h = small-of (eqb (entriesLeft a) 1 && not (eqb back 0)) ArmSide own (omega arith) h
 
 -- ---- the arms of a row that is drawn
 
-module _ (r : Bytes) (a : Arms) (w : length r ≡ 32) where
-  abbrev at : ℕ → ℕ
-  at b = getD (drawn r a) b 0
-
-  record Drawn : Type 0 where
-    stored : at 23 ≡ 1
-    north : at 24 ≡ a .north
-    east : at 25 ≡ a .east
-    south : at 26 ≡ a .south
-    west : at 27 ≡ a .west
-
-  here : (s : Bytes) (n v : ℕ) → length s ≡ 32 → n < 32 → getD (set s n v) n 0 ≡ v
-  here s n v e h = getD-set-same s n v 0 (omega arith)
-
-  past : (s : Bytes) (n b v : ℕ) → b < n → getD (set s n v) b 0 ≡ getD s b 0
-  past s n b v h = getD-set-other s n b v 0 (λ e. omega arith)
-
-  drawn-arms : Drawn
-  unfolding drawn
-  drawn-arms =
-      let s3 = set r 23 1 in
-      let s4 = set s3 24 (a .north) in
-      let s5 = set s4 25 (a .east) in
-      let s6 = set s5 26 (a .south) in
-      let w3 : length s3 ≡ 32 = length-set r 23 1 ∙ w in
-      let w4 : length s4 ≡ 32 = length-set s3 24 (a .north) ∙ w3 in
-      let w5 : length s5 ≡ 32 = length-set s4 25 (a .east) ∙ w4 in
-      let w6 : length s6 ≡ 32 = length-set s5 26 (a .south) ∙ w5 in
-      record {
-        stored =
-            past s6 27 23 (a .west) (omega arith) ∙ past s5 26 23 (a .south) (omega arith) ∙ past s4 25 23 (a .east) (omega arith)
-            ∙ past s3 24 23 (a .north) (omega arith) ∙ here r 23 1 w (omega arith);
-        north =
-            past s6 27 24 (a .west) (omega arith) ∙ past s5 26 24 (a .south) (omega arith) ∙ past s4 25 24 (a .east) (omega arith)
-            ∙ here s3 24 (a .north) w3 (omega arith);
-        east = past s6 27 25 (a .west) (omega arith) ∙ past s5 26 25 (a .south) (omega arith) ∙ here s4 25 (a .east) w4 (omega arith);
-        south = past s6 27 26 (a .west) (omega arith) ∙ here s5 26 (a .south) w5 (omega arith);
-        west = here s6 27 (a .west) w6 (omega arith);
-      }
-
-  good-drawn : Small a → goodArms (drawn r a) 0 ≡ true
-  good-drawn s =
-      let d : Drawn = drawn-arms in
-      rw (d .stored, d .north, d .east, d .south, d .west, le-leb _ 3 (s .north), le-leb _ 3 (s .east), le-leb _ 3 (s .south), le-leb _ 3 (s .west))
+good-drawn : (r : Bytes) (a : Arms) → length r ≡ 32 → Small a → goodArms (drawn r a) 0 ≡ true
+good-drawn r a w s =
+    let d : HasArms (drawn r a) a = drawn-arms r a w in
+    rw (d .stored, d .north, d .east, d .south, d .west, le-leb _ 3 (s .north), le-leb _ 3 (s .east), le-leb _ 3 (s .south), le-leb _ 3 (s .west))
 
 -- ---- every row is good again
 
@@ -153,11 +112,11 @@ row-arms : (s : Bytes) (i : ℕ) (r : Bytes) → ((b : ℕ) → b < 32 → byteO
 row-arms s i r h = rw (h 23 (omega arith), h 24 (omega arith), h 25 (omega arith), h 26 (omega arith), h 27 (omega arith))
 
 -- redrawing changes the arms alone, and they are good again
-pub redrawn-changes : (p t : Bytes) → length t ≡ rows t * 32 → Changes (λ _. isArmByte) t (updateWireShapes p t)
+redrawn-changes : (p t : Bytes) → length t ≡ rows t * 32 → Changes (λ _. isArmByte) t (updateWireShapes p t)
 redrawn-changes p t w =
     record {
-      long = redrawn-alike p t w .long;
-      agree = λ i b l e. redrawn-keeps p t w i b (l, e);
+      long = redrawn-long p t w;
+      agree = λ i b l e. every-kept p t w i b (l, e);
       places = λ i. refl;
       kinds = λ i. refl;
       levels = λ i. refl;
@@ -168,7 +127,7 @@ redrawn-changes p t w =
     good-arms i l g =
         let whole : length (part 32 t i) ≡ 32 = length-part 32 t i (omega arith) in
         let old : goodArms (part 32 t i) 0 ≡ true = sym (row-arms t i (part 32 t i) (λ b h. sym (part-at 32 t i b h))) ∙ g in
-        row-arms (updateWireShapes p t) i (redrawnRow p t i) (λ b h. redrawn-at p t w i b l h)
+        row-arms (updateWireShapes p t) i (redrawnRow p t i) (λ b h. redrawn-at p t i b l h)
         ∙ by-kind p t i (λ r. goodArms r 0 ≡ true) (good-drawn (part 32 t i) _ whole (small-opposite _ (small-entries p t i))) old
 
 -- a redrawn table is accepted where the table is

@@ -1,6 +1,5 @@
 -- Document 02, Change 4: on tables without bulbs the bulb's byte makes no difference to the redraw. Assumes nothing.
 use mathlib.Core.Path.{_≡_, refl}
-use mathlib.Core.Bool.{cond}
 use Prim.Native.Nat.{ℕ}
 use lib.ListN.{length}
 use Rattle.columns.specs.Column.{Bytes, concatRows}
@@ -12,7 +11,7 @@ use Rattle.refusals.specs.Check.{IsAccepted}
 use Rattle.refusals.proofs.Bulbs.{no-bulb}
 use Rattle.arms.specs.Arms.{inferWireConnection}
 use Rattle.arms.proofs.Profiles.{same-infer-by}
-use Rattle.redraw.specs.Redraw.{entryOf, entriesOf, redrawnRow, updateWireShapes}
+use Rattle.redrawing.specs.Drawn.{entryOf, entriesOf, redrawnRow, updateWireShapes}
 
 -- of a table that 13 bytes accept, under these and a fourteenth
 module _ (p t : Bytes) (long : length p ≡ 13) (h : IsAccepted p t) (b : ℕ) where

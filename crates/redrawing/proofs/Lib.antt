@@ -1,0 +1,6 @@
+-- Laws of redrawn tables.
+pub mod Rows
+pub mod Redrawn
+pub mod Accepted
+pub mod EitherOrder
+pub mod Bulbs
