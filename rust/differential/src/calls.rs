@@ -7,8 +7,8 @@ use crate::generate::Case;
 use crate::lent::Lent;
 use crate::oracle::Oracle;
 use crate::probe::Probe;
-use crate::redstone::{Call, Input};
 use crate::refusals::Asked;
+use crate::settling::{Call, Input};
 use crate::wire::WireQuery;
 use crate::world::{WorldQuery, supports_asked};
 

@@ -1,4 +1,5 @@
-//! Damaged copies of accepted cases. What a copy is refused for, if at all, is for documents 01 and 02 to say.
+//! Damaged copies of accepted cases, and damaged states and lengths. What they are refused for, if at all, is for documents
+//! 01 and 02 to say.
 
 use redstone::{FARTHEST, Kind, MOST_ROWS, ROW_BYTES, Row};
 
@@ -202,4 +203,49 @@ fn any_byte(random: &mut Random, case: &mut Case) {
         let at = random.below(case.table.len());
         case.table[at] = random.byte();
     }
+}
+
+/// A level about the last and above it, on up to three comparators, if there are any, of a device column or a state that has
+/// so many bytes for a row.
+pub fn overdrive(random: &mut Random, rows: &[Row], bytes: &mut [u8], width: usize) {
+    let mut comparators: Vec<_> =
+        rows.iter().enumerate().filter(|(_, row)| row.kind() == Kind::Comparator).collect();
+    let most = random.pick(&[1, 1, 2, 3]);
+    random.keep(&mut comparators, most);
+    for (row, _) in comparators {
+        bytes[width * row] = overdriven_level(random);
+    }
+}
+
+/// Another length of a device column, a state or an output column.
+pub fn other_length(random: &mut Random, length: usize) -> usize {
+    random.pick(&[0, length + 1, length.saturating_sub(1), length + 16, 2 * length])
+}
+
+/// Another length or another byte of a device column or a state.
+pub fn damage_bytes(random: &mut Random, bytes: &mut Vec<u8>) {
+    if bytes.is_empty() || random.percent(30) {
+        bytes.resize(other_length(random, bytes.len()), 0);
+    } else {
+        let at = random.below(bytes.len());
+        let any = random.byte();
+        bytes[at] = random.pick(&[0, 1, 2, 3, 16, 128, 255, any]);
+    }
+}
+
+/// Every byte of a case's table and of its profile set to every value.
+pub fn single_bytes(case: Case) -> impl Iterator<Item = Case> {
+    let parts: [fn(&mut Case) -> &mut Vec<u8>; 2] = [|case| &mut case.table, |case| &mut case.profile];
+    parts.into_iter().flat_map(move |part| {
+        let mut case = case.clone();
+        let bytes = part(&mut case).len();
+        (0..bytes).flat_map(move |at| {
+            let case = case.clone();
+            (0..=u8::MAX).map(move |value| {
+                let mut case = case.clone();
+                part(&mut case)[at] = value;
+                case
+            })
+        })
+    })
 }

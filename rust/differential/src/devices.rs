@@ -1,6 +1,6 @@
-//! Device columns from random numbers, and what is no device and can be thrown.
+//! Device columns and states from random numbers, and what is no device and can be thrown.
 
-use redstone::{Kind, Row};
+use redstone::{Kind, Row, STATE_BYTES};
 
 use crate::random::Random;
 
@@ -19,4 +19,35 @@ pub fn any_device(random: &mut Random, kind: Kind) -> u8 {
         Kind::Comparator => random.byte_below(16),
         _ => 0,
     }
+}
+
+/// Any state that documents 01 and 02 allow, whether a run comes to it or not.
+pub fn any_state(random: &mut Random, rows: &[Row]) -> Vec<u8> {
+    rows.iter().flat_map(|row| any_row_state(random, row)).collect()
+}
+
+fn any_row_state(random: &mut Random, row: &Row) -> [u8; STATE_BYTES] {
+    let mut state = [0; STATE_BYTES];
+    state[0] = any_device(random, row.kind());
+    match row.kind() {
+        Kind::Repeater => {
+            let delay = row.delay().unwrap_or(1).clamp(1, 4);
+            state[1] = random.byte_below(1 << delay) & !1 | state[0];
+        }
+        Kind::RedstoneTorch => {
+            let toggles = (random.bits() & random.bits()) as u32 >> 1;
+            state[4..8].copy_from_slice(&toggles.to_le_bytes());
+            state[8] = (toggles.count_ones() >= 8 || random.percent(20)).into();
+        }
+        Kind::RedstoneLamp => {
+            state[2] = random.byte_below(2);
+            state[3] = random.byte_below(3) * state[2];
+        }
+        Kind::CopperBulb => {
+            state[2] = random.byte_below(2);
+            state[9] = random.byte_below(2);
+        }
+        _ => {}
+    }
+    state
 }

@@ -16,6 +16,7 @@ use crate::random::Random;
 
 pub use leaning::{NEEDING, NOT_SUPPORTING, SUPPORTING, ring_places};
 pub use redstone::{BENCH_PROFILE, BENCH_PROFILE_WITH_BULB};
+pub use rows::any_arms;
 
 /// The places of the torch's byte in a profile, and of the bulb's where there is one.
 pub const TORCH: usize = Kind::RedstoneTorch.code() as usize;

@@ -1,6 +1,6 @@
 //! Holds the proved functions of the static libraries `probe` and `redstone`, and the programs `settle` and `month`,
 //! against the original Rust, and look-ups on rows in any order, what a torch charges, the light of bulbs, what is
-//! overdriven, two tables in one and the rows that are cleared against document 02.
+//! overdriven, two tables in one, the rows that are cleared and the redraw and the switch in either order against document 02.
 
 pub mod bulb;
 #[cfg(not(no_original))]
@@ -14,6 +14,7 @@ pub mod damage;
 pub mod devices;
 pub mod differences;
 pub mod disorder;
+pub mod either_order;
 pub mod faults;
 pub mod generate;
 pub mod lent;
@@ -35,6 +36,7 @@ pub mod refusals;
 pub mod report;
 #[cfg(not(no_original))]
 pub mod settle;
+pub mod settling;
 pub mod suite;
 pub mod table;
 pub mod torch;
@@ -42,3 +44,4 @@ pub mod torch;
 pub mod wire;
 #[cfg(not(no_original))]
 pub mod world;
+pub mod written;

@@ -2,6 +2,7 @@
 
 use redstone::Row;
 
+use crate::devices::is_switch;
 use crate::random::Random;
 use crate::table::{Position, moved};
 
@@ -16,4 +17,17 @@ pub fn around(random: &mut Random, rows: &[Row], most: usize) -> Vec<Position> {
 pub fn beside(random: &mut Random, at: Position) -> Position {
     let step = [(); 3].map(|()| random.within(-2, 2));
     moved(at, step)
+}
+
+/// A switch's position as often as any row's, or now and then any.
+pub fn any_position(random: &mut Random, rows: &[Row]) -> Position {
+    let mut rows: Vec<_> = rows.iter().collect();
+    if random.percent(50) && rows.iter().any(|row| is_switch(row)) {
+        rows.retain(|row| is_switch(row));
+    }
+    if rows.is_empty() || random.percent(15) {
+        [(); 3].map(|()| random.pick(&[0, 1, i32::MIN, i32::MAX]))
+    } else {
+        random.pick(&rows).position()
+    }
 }

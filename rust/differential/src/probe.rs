@@ -57,6 +57,7 @@ c_functions! {
     fn probe_redraw(profile: &[u8], table: &mut [u8]) -> u32;
     fn redstone_clear(profile: &[u8], table: &[u8], kept: &mut [u8], passes: &mut [u16]) -> u32;
     fn redstone_merge(first: &[u8], second: &[u8], dx: i32, dy: i32, dz: i32, out: &mut [u8]) -> u32;
+    fn redstone_redraw(profile: &[u8], table: &mut [u8]) -> u32;
     fn redstone_switch(profile: &[u8], table: &mut [u8], state: &[u8], x: i32, y: i32, z: i32, powered: u32, signal: &mut [u8], weak: &mut [u8], strong: &mut [u8]) -> u32;
 }
 

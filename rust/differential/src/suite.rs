@@ -19,14 +19,19 @@ pub fn seeds(tables: u64) -> Range<u64> {
     from_the_first(setting("DIFF_TABLES", tables))
 }
 
+/// The same, where fewer than this many would not do.
+pub fn at_least_seeds(tables: u64) -> Range<u64> {
+    from_the_first(setting("DIFF_TABLES", tables).max(tables))
+}
+
 /// The accepted tables of these seeds.
 pub fn good_cases(tables: u64) -> impl Iterator<Item = Case> {
     seeds(tables).map(generate::case)
 }
 
-/// The same, where fewer than this many would not do.
+/// The accepted tables of these.
 pub fn at_least_good_cases(tables: u64) -> impl Iterator<Item = Case> {
-    from_the_first(setting("DIFF_TABLES", tables).max(tables)).map(generate::case)
+    at_least_seeds(tables).map(generate::case)
 }
 
 fn from_the_first(tables: u64) -> Range<u64> {

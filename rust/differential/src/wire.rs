@@ -111,7 +111,7 @@ impl Oracle<'_> {
 }
 
 /// A row with the arms that its block has now.
-fn redrawn(world: &World, row: &Row) -> Row {
+pub fn redrawn(world: &World, row: &Row) -> Row {
     let block = world.get(pos(row.position())).expect("the row's own block");
     row.with_arms(block.wire_connections.as_ref().map(arms))
 }

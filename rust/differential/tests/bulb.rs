@@ -147,10 +147,8 @@ mod compared {
     use differential::generate::{self, Case};
     use differential::oracle::Oracle;
     use differential::probe::Probe;
-    use differential::redstone::{
-        Call, Input, OriginalRun, PROFILE, ProvedRun, STATE, Step, compare_case, hundred_ticks, queries,
-        steps,
-    };
+    use differential::redstone::{OriginalRun, ProvedRun, Step, compare_case, hundred_ticks, queries, steps};
+    use differential::settling::{Call, Input, PROFILE, STATE};
     use differential::suite::{assert_compared, at_least_good_cases};
     use differential::table;
     use redstone::{Kind, ROW_BYTES, STATE_BYTES};

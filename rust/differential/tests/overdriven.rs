@@ -22,10 +22,9 @@ mod compared {
     };
     use differential::probe::{Probe, probe_check};
     use differential::program::{find, run};
-    use differential::redstone::{
-        Call, Input, OriginalRun, ProvedRun, SIGNAL, STATE, STRONG, WEAK, queries, steps,
-    };
+    use differential::redstone::{OriginalRun, ProvedRun, queries, steps};
     use differential::refusals::{ORDER, Refusal, check, refuse};
+    use differential::settling::{Call, Input, SIGNAL, STATE, STRONG, WEAK};
     use differential::suite::{at_least_good_cases, print, with_damaged};
     use differential::{connectivity, settle, table, torch, wire, world};
     use redstone::{Facing, Kind, Row, STATE_BYTES};

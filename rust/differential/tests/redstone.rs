@@ -13,9 +13,10 @@ mod compared {
     use differential::oracle::{Oracle, world};
     use differential::probe::{Probe, redstone_switch};
     use differential::redstone::{
-        ALTERATIONS, Call, Input, OriginalRun, ProvedRun, SIGNAL, STATE, Step, TABLE, compare_case, edges,
-        settle_at_every_limit, single_bytes, steps,
+        ALTERATIONS, OriginalRun, ProvedRun, Step, compare_case, edges, settle_at_every_limit, single_bytes,
+        steps,
     };
+    use differential::settling::{Call, Input, SIGNAL, STATE, TABLE};
     use differential::suite::{
         assert_alterations_reported, assert_compared, compare_many, good_cases, setting,
     };

@@ -228,9 +228,10 @@ mod compared {
     use differential::oracle::{Oracle, pos};
     use differential::random::Random;
     use differential::redstone::{
-        Call, Input, OriginalRun, ProvedRun, STRONG, compare_case, device_outputs, fresh_devices,
-        hundred_ticks, queries as calls_on,
+        OriginalRun, ProvedRun, compare_case, device_outputs, fresh_devices, hundred_ticks,
+        queries as calls_on,
     };
+    use differential::settling::{Call, Input, STRONG};
     use original::electrical::DeviceOutputState;
     use original::unpatched;
     use redstone::STATE_BYTES;

@@ -3,6 +3,7 @@
 use redstone::{FARTHEST, Kind, MOST_ROWS, ROW_BYTES, Row, Shape};
 
 use super::{Clear, Trial};
+use crate::damage;
 use crate::generate::{BENCH_PROFILE_WITH_BULB, Case, NEEDING, SUPPORTING, TORCH};
 use crate::refusals::Refusal;
 use crate::table::{Position, UNDER, is_on_ground, moved, step};
@@ -131,20 +132,7 @@ fn small_table() -> Case {
 
 /// Every byte of a small table and of its profile set to every value.
 pub fn single_bytes() -> impl Iterator<Item = Case> {
-    let case = small_table();
-    let parts: [fn(&mut Case) -> &mut Vec<u8>; 2] = [|case| &mut case.table, |case| &mut case.profile];
-    parts.into_iter().flat_map(move |part| {
-        let mut case = case.clone();
-        let bytes = part(&mut case).len();
-        (0..bytes).flat_map(move |at| {
-            let case = case.clone();
-            (0..=u8::MAX).map(move |value| {
-                let mut case = case.clone();
-                part(&mut case)[at] = value;
-                case
-            })
-        })
-    })
+    damage::single_bytes(small_table())
 }
 
 /// Every byte of a profile of every value. Two levers on a solid block stay where solid blocks hold and levers do.

@@ -3,9 +3,9 @@
 use std::ops::Neg;
 
 use redstone::Row;
-use redstone_text::Table;
 
 use super::Trial;
+use crate::written;
 
 /// A table by rows as docs/DIFFERENCES.md has them, each with the pass in which it goes, or 0.
 pub struct ByHand {
@@ -17,15 +17,7 @@ pub struct ByHand {
 
 impl ByHand {
     fn read(&self) -> (Vec<u8>, Vec<(Row, u16)>) {
-        let mut profile = Vec::new();
-        let rows = self.rows.iter().map(|(line, pass)| {
-            let text = [self.profile, line].join("\n");
-            let table: Table = text.parse().unwrap_or_else(|error| panic!("{}: {error}", self.what));
-            profile = table.profile;
-            (table.rows[0], *pass)
-        });
-        let rows = rows.collect();
-        (profile, rows)
+        written::read(self.what, self.profile, self.rows)
     }
 }
 

@@ -7,8 +7,8 @@ use redstone::{Facing, Kind, MOST_ROWS, ROW_BYTES, Row, STATE_BYTES};
 use super::Trial;
 use crate::calls::{AnyCall, six_calls};
 use crate::generate::{BENCH_PROFILE_WITH_BULB, Case};
-use crate::redstone::{Call, Input};
 use crate::refusals::Refusal;
+use crate::settling::{Call, Input};
 
 /// The faults in the order in which they are tested for.
 #[derive(Clone, Copy, Debug, Eq, PartialEq)]

@@ -5,8 +5,8 @@ use redstone::{Facing, Kind, ROW_BYTES, Row, STATE_BYTES};
 use super::Trial;
 use crate::calls::{AnyCall, six_calls, six_calls_on};
 use crate::generate::{BENCH_PROFILE_WITH_BULB, Case};
-use crate::redstone::{Call, Input};
 use crate::refusals::Refusal;
+use crate::settling::{Call, Input};
 
 /// The number of the row that is tried.
 const TRIED: usize = 1;

@@ -2,12 +2,12 @@
 
 use redstone::{Kind, ROW_BYTES, STATE_BYTES};
 
-use super::{Call, Input, PROFILE, SIGNAL, STATE, STRONG, TABLE, WEAK};
 use crate::compare::{Alteration, Answer, Answers};
 use crate::generate::Case;
 use crate::lent::Lent;
 use crate::probe::Probe;
 use crate::refusals::REFUSED;
+use crate::settling::{Call, Input, PROFILE, SIGNAL, STATE, STRONG, TABLE, WEAK};
 
 pub const ALTERATIONS: [Alteration<Call>; 27] = [
     Alteration {

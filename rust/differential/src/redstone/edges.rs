@@ -3,9 +3,9 @@
 use redstone::{Arm, FARTHEST, Facing, Kind, MOST_ROWS, ROW_BYTES, Row, STATE_BYTES};
 
 use super::queries::fresh_devices;
-use super::{Call, Input};
 use crate::generate::{BENCH_PROFILE_WITH_BULB, BULB, Case, TORCH};
 use crate::oracle::Oracle;
+use crate::settling::{Call, Input};
 use crate::table::HORIZONTAL;
 
 /// A case and a call on it.

@@ -3,13 +3,14 @@
 use original::electrical::DeviceOutputState;
 use redstone::{Kind, Row, STATE_BYTES};
 
-use super::{Call, Input, SETTLES};
-use crate::damage::overdriven_level;
-use crate::devices::{any_device, any_devices, is_switch};
+use super::SETTLES;
+use crate::damage::{damage_bytes, other_length, overdrive};
+use crate::devices::{any_devices, any_state};
 use crate::generate::Case;
 use crate::oracle::{Oracle, pos};
+use crate::positions::any_position;
 use crate::random::Random;
-use crate::table::Position;
+use crate::settling::{Call, Input};
 
 /// From this many rows on a table is asked for less.
 pub const LARGE: usize = 100;
@@ -92,43 +93,12 @@ fn reached_state(random: &mut Random, oracle: &Oracle) -> Vec<u8> {
     let ticks = if oracle.rows.len() >= LARGE { 1 } else { random.pick(&[0, 1, 2, 4, 8, 35]) };
     for _ in 0..ticks {
         if random.percent(30) {
-            let at = any_position(random, oracle);
+            let at = any_position(random, &oracle.rows);
             simulator.switch(at, random.percent(50));
         }
         simulator.tick(1);
     }
     simulator.packed()
-}
-
-/// Any state that documents 01 and 02 allow, whether a run comes to it or not.
-fn any_state(random: &mut Random, rows: &[Row]) -> Vec<u8> {
-    rows.iter().flat_map(|row| any_row_state(random, row)).collect()
-}
-
-fn any_row_state(random: &mut Random, row: &Row) -> [u8; STATE_BYTES] {
-    let mut state = [0; STATE_BYTES];
-    state[0] = any_device(random, row.kind());
-    match row.kind() {
-        Kind::Repeater => {
-            let delay = row.delay().unwrap_or(1).clamp(1, 4);
-            state[1] = random.byte_below(1 << delay) & !1 | state[0];
-        }
-        Kind::RedstoneTorch => {
-            let toggles = (random.bits() & random.bits()) as u32 >> 1;
-            state[4..8].copy_from_slice(&toggles.to_le_bytes());
-            state[8] = (toggles.count_ones() >= 8 || random.percent(20)).into();
-        }
-        Kind::RedstoneLamp => {
-            state[2] = random.byte_below(2);
-            state[3] = random.byte_below(3) * state[2];
-        }
-        Kind::CopperBulb => {
-            state[2] = random.byte_below(2);
-            state[9] = random.byte_below(2);
-        }
-        _ => {}
-    }
-    state
 }
 
 fn tick(random: &mut Random, state: Vec<u8>) -> Input {
@@ -138,26 +108,15 @@ fn tick(random: &mut Random, state: Vec<u8>) -> Input {
 }
 
 fn switch(random: &mut Random, oracle: &Oracle, state: Vec<u8>) -> Input {
-    Input::Switch { state, at: any_position(random, oracle), powered: random.percent(50) }
-}
-
-/// A switch's position as often as any row's, or now and then any.
-pub fn any_position(random: &mut Random, oracle: &Oracle) -> Position {
-    let mut rows: Vec<_> = oracle.rows.iter().collect();
-    if random.percent(50) && rows.iter().any(|row| is_switch(row)) {
-        rows.retain(|row| is_switch(row));
-    }
-    if rows.is_empty() || random.percent(15) {
-        [(); 3].map(|()| random.pick(&[0, 1, i32::MIN, i32::MAX]))
-    } else {
-        random.pick(&rows).position()
-    }
+    Input::Switch { state, at: any_position(random, &oracle.rows), powered: random.percent(50) }
 }
 
 /// Most calls as they are; of the others a length, a byte or a comparator's level is changed.
 fn damaged_sometimes(random: &mut Random, rows: &[Row], mut call: Call) -> Call {
-    if random.percent(10) {
-        overdrive(random, rows, &mut call.input);
+    if random.percent(10)
+        && let Some((bytes, width)) = call.input.devices()
+    {
+        overdrive(random, rows, bytes, width);
     }
     if random.percent(8) {
         let column = random.below(3);
@@ -172,30 +131,4 @@ fn damaged_sometimes(random: &mut Random, rows: &[Row], mut call: Call) -> Call 
         }
     }
     call
-}
-
-/// A level about the last and above it, on up to three comparators, if there are any.
-fn overdrive(random: &mut Random, rows: &[Row], input: &mut Input) {
-    let Some((bytes, width)) = input.devices() else { return };
-    let mut comparators: Vec<_> =
-        rows.iter().enumerate().filter(|(_, row)| row.kind() == Kind::Comparator).collect();
-    let most = random.pick(&[1, 1, 2, 3]);
-    random.keep(&mut comparators, most);
-    for (row, _) in comparators {
-        bytes[width * row] = overdriven_level(random);
-    }
-}
-
-fn other_length(random: &mut Random, length: usize) -> usize {
-    random.pick(&[0, length + 1, length.saturating_sub(1), length + 16, 2 * length])
-}
-
-fn damage_bytes(random: &mut Random, bytes: &mut Vec<u8>) {
-    if bytes.is_empty() || random.percent(30) {
-        bytes.resize(other_length(random, bytes.len()), 0);
-    } else {
-        let at = random.below(bytes.len());
-        let any = random.byte();
-        bytes[at] = random.pick(&[0, 1, 2, 3, 16, 128, 255, any]);
-    }
 }

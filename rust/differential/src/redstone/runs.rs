@@ -5,15 +5,17 @@ use std::cell::RefCell;
 use original::electrical::InstantaneousElectricalState;
 use redstone::{Kind, Row, STATE_BYTES};
 
-use super::queries::{LARGE, any_position};
+use super::queries::LARGE;
 use super::simulator::Simulator;
-use super::{Buffers, Call, Input, STATE, TABLE, write_powered};
+use super::write_powered;
 use crate::bulb::{READING, Reading};
 use crate::compare::{Answer, Answers, Query};
 use crate::generate::Case;
 use crate::oracle::Oracle;
+use crate::positions::any_position;
 use crate::probe::Probe;
 use crate::random::Random;
+use crate::settling::{Buffers, Call, Input, STATE, TABLE};
 use crate::table::Position;
 
 #[derive(Clone, Copy, Debug)]
@@ -42,7 +44,10 @@ pub fn steps(oracle: &Oracle) -> Vec<Step> {
     let mut steps = vec![Step::Fresh];
     for _ in 0..if oracle.rows.len() < LARGE { STEPS } else { STEPS_IF_LARGE } {
         if random.percent(50) {
-            steps.push(Step::Switch { at: any_position(&mut random, oracle), powered: random.percent(50) });
+            steps.push(Step::Switch {
+                at: any_position(&mut random, &oracle.rows),
+                powered: random.percent(50),
+            });
         }
         steps.push(Step::Ticks(random.pick(&[0, 1, 1, 1, 1, 1, 2, 3, 8])));
     }

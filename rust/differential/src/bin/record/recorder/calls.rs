@@ -5,9 +5,8 @@ use differential::devices::{any_devices, is_switch};
 use differential::generate::{BENCH_PROFILE, BENCH_PROFILE_WITH_BULB, Case};
 use differential::oracle::Oracle;
 use differential::random::Random;
-use differential::redstone::{
-    Call, Input, OriginalRun, SIGNAL, STATE, STRONG, Step, TABLE, WEAK, fresh_devices,
-};
+use differential::redstone::{OriginalRun, Step, fresh_devices};
+use differential::settling::{Call, Input, SIGNAL, STATE, STRONG, TABLE, WEAK};
 use differential::table::{self, Position};
 use redstone::{Facing, Kind, ROW_BYTES, Row, STATE_BYTES};
 

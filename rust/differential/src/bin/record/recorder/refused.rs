@@ -5,7 +5,7 @@ use differential::calls::{AnyCall, six_calls, six_calls_on};
 use differential::compare::Answers;
 use differential::generate::{BENCH_PROFILE, BENCH_PROFILE_WITH_BULB, BULB, Case};
 use differential::oracle::Oracle;
-use differential::redstone::{Call, Input};
+use differential::settling::{Call, Input};
 use redstone::{Kind, ROW_BYTES, Row, STATE_BYTES};
 
 use super::record::Record;
