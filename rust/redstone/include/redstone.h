@@ -202,7 +202,9 @@ uint32_t redstone_tick(
 
 /* Writes byte 14 of the row at x, y, z, to 1 where `powered` is 0 and else to 2, and settles the table. Where there is
  * no such row it settles the table as it is. The state is not written: a bulb that gets power by this, and keeps it,
- * flips at the next tick. */
+ * flips at the next tick. A switch before redstone_redraw and the same switch after it, under one profile, end in the same
+ * table. Rounds and columns are by the arms that the table has at this call: where the redraw comes last, settle again, as
+ * by redstone_tick with no ticks. */
 uint32_t redstone_switch(
     const uint8_t *profile, size_t profile_length,
     uint8_t *table, size_t table_length,
@@ -212,7 +214,12 @@ uint32_t redstone_switch(
     uint8_t *weak, size_t weak_length,
     uint8_t *strong, size_t strong_length);
 
-/* Draws the arms of every dust anew: writes bytes 23 to 27 of its row. Answers 0. */
+/* Draws the arms of every dust anew: writes bytes 23 to 27 of its row. Answers 0. A second redraw under the same profile
+ * changes no byte and answers the same. A redraw and then redstone_switch leave the same table as that switch and then the
+ * redraw, whether a row is at its position or none. With the same state and columns of the same lengths that holds of
+ * refused calls, too, the refusal being the same in both orders; with others it holds where neither switch is refused. That
+ * is proved: `redraw-twice`, `answers-twice`, `same-table`, `same-refusal` and `same-table-done`,
+ * crates/either_order/proofs/Calls.antt. */
 uint32_t redstone_redraw(
     const uint8_t *profile, size_t profile_length,
     uint8_t *table, size_t table_length);

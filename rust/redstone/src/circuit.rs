@@ -210,7 +210,7 @@ impl Circuit {
     }
 
     /// Sets whether the block at x, y, z is powered. Where there is none, nothing changes. No device changes before the
-    /// next tick.
+    /// next tick. With a [`redraw`](Self::redraw) it may come in either order.
     ///
     /// # Errors
     ///
@@ -223,7 +223,34 @@ impl Circuit {
         Ok(self.rounds())
     }
 
-    /// Draws the arms of every dust anew and settles the table with them.
+    /// Draws the arms of every dust anew and settles the table with them. A second redraw changes nothing.
+    ///
+    /// A redraw and then a [`switch`](Self::switch) make the same circuit as that switch and then the redraw, in all that
+    /// it holds: the table is the same, and the last of the two settles it with the same state. After the first of them
+    /// figures may differ. The lamp at the end of this line has power by an arm that the redraw adds:
+    ///
+    /// ```
+    /// use redstone::{BENCH_PROFILE, Circuit, Kind, Row};
+    ///
+    /// let (lever, lamp) = ([0, 0, 0], [2, 0, 0]);
+    /// let mut one = Circuit::new(&BENCH_PROFILE, [
+    ///     Row::new(Kind::Lever, lever),
+    ///     Row::new(Kind::RedstoneWire, [1, 0, 0]),
+    ///     Row::new(Kind::RedstoneLamp, lamp),
+    /// ])?;
+    /// let mut other = one.clone();
+    /// let weak = |circuit: &Circuit| circuit.at(lamp).map(|block| block.figures.weak);
+    ///
+    /// one.redraw()?;
+    /// one.switch(lever, true)?;
+    /// assert_eq!(weak(&one), Some(15));
+    ///
+    /// other.switch(lever, true)?;
+    /// assert_eq!(weak(&other), Some(0));
+    /// other.redraw()?;
+    /// assert_eq!(one, other);
+    /// # Ok::<(), redstone::Refusal>(())
+    /// ```
     ///
     /// # Errors
     ///

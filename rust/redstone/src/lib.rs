@@ -291,6 +291,9 @@ pub fn tick(
 /// Sets whether the block at x, y, z is powered, in the table itself, and settles it. Where no block is, it settles
 /// the table as it is. The state stays as it is: a bulb that is powered by it flips at the next tick.
 ///
+/// A switch before a [`redraw`] and the same switch after it, under one profile, end in the same table. Rounds and columns
+/// are by the arms that the table has at this call: where the redraw comes last, settle again, as by a [`tick`] of no ticks.
+///
 /// # Errors
 ///
 /// Refusals 1 to 5, 10 on a row, 6 and 10 on the state, and 7 on a column.
@@ -311,6 +314,12 @@ pub fn switch(
 /// Draws the arms of every dust anew, in the table itself: those that are inferred from what stands around it, and where
 /// that is one alone its opposite, too. An editor does so when a block is set or taken away. Dust whose arms are not
 /// stored settles with the inferred ones, without such an opposite.
+///
+/// A second redraw under the same profile changes no byte and answers the same. A redraw and then a [`switch`] leave the
+/// same table as that switch and then the redraw, whether a block is at its position or none. With the same state and
+/// columns of the same lengths that holds of refused calls, too, the refusal being the same in both orders; with others it
+/// holds where neither switch is refused. That is proved of the calls, in the repository's
+/// crates/either_order/proofs/Calls.antt.
 ///
 /// # Errors
 ///

@@ -3,6 +3,7 @@ mod bulbs;
 mod calls;
 mod circuit;
 mod clear;
+mod either_order;
 mod faults;
 mod header;
 mod merge;
