@@ -37,7 +37,7 @@ fn declared(line: &str) -> Option<&str> {
     let line = line.trim_start();
     let line = line.strip_prefix("abbrev ").or(line.strip_prefix("unfoldable ")).unwrap_or(line);
     let line = line.strip_prefix("pub ")?;
-    line.strip_prefix("record ").unwrap_or(line).split_whitespace().next()
+    line.strip_prefix("record ").or(line.strip_prefix("data ")).unwrap_or(line).split_whitespace().next()
 }
 
 /// The public functions and constants of a source in Rattle, those of a type as TYPE::NAME.
