@@ -17,7 +17,8 @@ use Rattle.redrawing.specs.Drawn.{updateWireShapes}
 use Rattle.switching.specs.Switch.{switched}
 use Rattle.electrical.specs.Answer.{settled}
 use Rattle.updates.specs.State.{freshDevices}
-use Rattle.either_order.specs.Orders.{RedrawThenSwitch, SwitchThenRedraw}
+use Rattle.updates.specs.Calls.{Switches}
+use Rattle.either_order.specs.Orders.{SwitchesTo, RedrawThenSwitch, SwitchThenRedraw}
 use Rattle.either_order.proofs.Calls.{same-table-done}
 use Rattle.cases.proofs.Computing.{computing}
 use Rattle.cases.proofs.Build.{block, powered}
@@ -106,12 +107,14 @@ claim : T (passes cases)
 unfolding passes cases
 claim = tt
 
--- ---- the calls, on such a table: none is refused, each changes it, and the switch answers other rounds, and writes other power, in one order than in the other
+-- ---- the calls, on such a table: none is refused, each changes it, and the switch answers other rounds, and writes other power, after the redraw than
+-- before it
 
 -- no device of these rows is on
 rest : Bytes
 rest = replicate 48 0
 
+-- what is in each column before a call
 old : Column
 old = 99 ∷ 99 ∷ 99 ∷ []
 
@@ -123,26 +126,33 @@ after : Bytes
 unfolding beside on straight stored dust
 after = beside on (straight dust)
 
+-- a call that switches the lever on, with its three columns
+switching : {t u : Bytes} {signal weak strong : Column} {r : ℕ} → Switches benchProfile t u rest rest atLever 1 old old old signal weak strong r
+    → SwitchesTo benchProfile t rest u atLever 1 3 3 3 r
+unfolding old
+switching {signal = signal} {weak = weak} {strong = strong} call =
+    record {
+      state′ = rest;
+      signal = old;
+      weak = old;
+      strong = old;
+      signal′ = signal;
+      weak′ = weak;
+      strong′ = strong;
+      call = call;
+      signal-long = refl;
+      weak-long = refl;
+      strong-long = refl;
+    }
+
 one : RedrawThenSwitch benchProfile table rest after atLever 1 3 3 3 0 3
 unfolding computing table after rest old beside off on straight stored dust atLever
 one =
     record {
       between = beside off (straight dust);
       redraws = record { answer = refl; table = refl };
-      switches =
-          record {
-            state′ = rest;
-            signal = old;
-            weak = old;
-            strong = old;
-            signal′ = 15 ∷ 15 ∷ 0 ∷ [];
-            weak′ = 0 ∷ 0 ∷ 15 ∷ [];
-            strong′ = 0 ∷ 0 ∷ 0 ∷ [];
-            call = record { answer = refl; table = refl; state = refl; columns = record { signals = refl; weaks = refl; strongs = refl } };
-            signal-long = refl;
-            weak-long = refl;
-            strong-long = refl;
-          };
+      switches = switching {signal = 15 ∷ 15 ∷ 0 ∷ []} {weak = 0 ∷ 0 ∷ 15 ∷ []} {strong = 0 ∷ 0 ∷ 0 ∷ []}
+          (record { answer = refl; table = refl; state = refl; columns = record { signals = refl; weaks = refl; strongs = refl } });
     }
 
 other : SwitchThenRedraw benchProfile table rest after atLever 1 3 3 3 0 2
@@ -150,20 +160,8 @@ unfolding computing table after rest old beside off on straight stored dust atLe
 other =
     record {
       between = beside on dust;
-      switches =
-          record {
-            state′ = rest;
-            signal = old;
-            weak = old;
-            strong = old;
-            signal′ = 15 ∷ 15 ∷ 0 ∷ [];
-            weak′ = 0 ∷ 0 ∷ 0 ∷ [];
-            strong′ = 0 ∷ 0 ∷ 0 ∷ [];
-            call = record { answer = refl; table = refl; state = refl; columns = record { signals = refl; weaks = refl; strongs = refl } };
-            signal-long = refl;
-            weak-long = refl;
-            strong-long = refl;
-          };
+      switches = switching {signal = 15 ∷ 15 ∷ 0 ∷ []} {weak = 0 ∷ 0 ∷ 0 ∷ []} {strong = 0 ∷ 0 ∷ 0 ∷ []}
+          (record { answer = refl; table = refl; state = refl; columns = record { signals = refl; weaks = refl; strongs = refl } });
       redraws = record { answer = refl; table = refl };
     }
 
