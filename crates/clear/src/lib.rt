@@ -1,6 +1,7 @@
 // A table cleared of the rows that would drop. What holds each row up is looked up once. Which rows are left is read from the column of passes itself:
 // a row without a mark has not gone.
 use columns::Found;
+use columns::fill;
 use refusals::Checked;
 use subtables::put_row;
 use supports::needs_support;
@@ -11,7 +12,7 @@ ghost use mathlib.Core.Bool.{_&&_};
 ghost use Prim.Native.Nat.{ℕ, _≤_, _<_};
 ghost use lib.ListN.{length};
 ghost use lib.Dec.{ltb};
-ghost use Rattle.columns.specs.Column.{row as entry, tabulate, atFront};
+ghost use Rattle.columns.specs.Column.{row as entry, atFront};
 ghost use Rattle.columns.specs.First.{indicesFrom};
 ghost use Rattle.world.specs.Rows.{rows};
 ghost use Rattle.refusals.specs.declared.Checked.{Checked};
@@ -89,22 +90,13 @@ fn clear_pass(holders: &[u16], passes: &mut [u16], pass: u16) -> bool
     any
 }
 
-// Takes the mark off every row.
-fn unmark(passes: &mut [u16])
-    ensures { λ _. ⌜ now (passes .exit) ≡ tabulate (length (now (passes .entry))) (λ _. 0) ⌝ }
-{
-    for i in 0..passes.len() {
-        passes[i] = 0;
-    }
-}
-
 // Writes the pass in which each row goes, from 1, or 0.
 fn clear_passes(profile: &[u8], table: &[u8], holders: &mut [u16], passes: &mut [u16])
     requires { ⌜ Table (now table) × (length (now holders) ≡ rows (now table)) × (length (now passes) ≡ rows (now table)) ⌝ }
     ensures { λ _. ⌜ now (passes .exit) ≡ passColumn (now (profile .entry)) (now (table .entry)) ⌝ }
 {
     fill_holders(profile, table, holders);
-    unmark(passes);
+    fill(passes, 0);
     let mut pass = 1;
     while clear_pass(holders, passes, pass) {
         pass += 1;

@@ -1,10 +1,11 @@
 -- Laws of the first index at which a test holds, and of the loop that looks for it.
 -- Assumes nothing.
 use mathlib.Core.Path.{_≡_, refl, ap, sym, _∙_}
-use mathlib.Core.Logic.{_⊎_, inl, inr, ⊎-elim}
+use mathlib.Core.Logic.{_⊎_, inl, inr, ⊎-elim, by-cases}
 use mathlib.Core.Bool.{Bool, true, false, true≢false}
 use Prim.Native.Nat.{ℕ, zero, suc, _+_, _-_, _≤_, _<_}
 use native.Mathlib.Nat.{le-refl, eq-or-lt-of-le, not-suc-le-zero, le-of-suc-le-suc}
+use native.Mathlib.Decide.{ℕ-discrete}
 use native.Mathlib.Numerals.{add-one}
 use native.Mathlib.Omega.{arith}
 use Rattle.columns.specs.declared.Found.the-variants.{At, Nothing}
@@ -67,6 +68,15 @@ none-first f zero i h = refl
 none-first f (suc n) i h =
     let now : f i ≡ false = h i (omega arith) (omega arith) in
     rw now (none-first f n (i + 1) (λ k a b. h k (omega arith) (omega arith)))
+
+-- what a test finds that holds at n alone, if anywhere
+module _ (f : ℕ → Bool) (k n : ℕ) (inside : n < k) (others : (i : ℕ) → i < k → ¬ (i ≡ n) → f i ≡ false) where
+  pub only-at : firstFrom f k 0 ≡ foundIf (f n) n Nothing
+  only-at = go (f n) refl
+    where
+      go : (b : Bool) → f n ≡ b → firstFrom f k 0 ≡ foundIf b n Nothing
+      go true e = at-first f k 0 n (record { from = omega arith; inside = omega arith; holds = e; earlier = λ j _ l. others j (omega arith) (λ q. omega arith) })
+      go false e = none-first f k 0 (λ j _ l. by-cases (ℕ-discrete j n) (λ q. rw q e) (others j (omega arith)))
 
 -- two tests that answer alike find alike
 pub first-same : (f g : ℕ → Bool) (n i : ℕ) → ((k : ℕ) → i ≤ k → k < i + n → f k ≡ g k) → firstFrom f n i ≡ firstFrom g n i

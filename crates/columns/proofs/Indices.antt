@@ -114,6 +114,20 @@ indices-same f g zero i h = refl
 indices-same f g (suc n) i h =
     rw (h i (omega arith) (omega arith), indices-same f g n (i + 1) (λ k a b. h k (omega arith) (omega arith))) refl
 
+-- those below a later bound are the same, where f does not hold in between
+pub indices-past : (f : ℕ → Bool) (b d : ℕ) → ((k : ℕ) → b ≤ k → k < b + d → f k ≡ false) → indicesFrom f (b + d) 0 ≡ indicesFrom f b 0
+indices-past f b zero h = rw (add-zero b)
+indices-past f b (suc d) h =
+    let next : b + suc d ≡ b + d + 1 = omega arith in
+    rw (next, indices-more f (b + d), h (b + d) (omega arith) (omega arith), append-nil) (indices-past f b d (λ k l m. h k l (omega arith)))
+
+-- ---- a list at the front of a column, with one number more
+
+pub front-more : (xs old : Column) (count x : ℕ) → count ≡ length xs → count < length old → set (atFront xs old) count x ≡ atFront (xs ++ (x ∷ [])) old
+front-more xs old count x e l =
+    let long : length (xs ++ (x ∷ [])) ≡ suc (length xs) = rw length-append (omega arith) in
+    rw (drop-cons old (length xs) 0 (omega arith), set-at xs _ _ x count (sym e), long, append-assoc)
+
 -- ---- after i indices, those at which f holds are at the front of the column
 
 pub record Listed (f : ℕ → Bool) (i : ℕ) (old now : Column) (count : ℕ) : Type 0 where
@@ -134,11 +148,8 @@ module _ {f : ℕ → Bool} {i : ℕ} {old now : Column} {count : ℕ} (h : List
   pub listed-more : f i ≡ true → i < length old → Listed f (i + 1) old (set now count i) (count + 1)
   listed-more e l =
       let more : indicesFrom f (i + 1) 0 ≡ indicesFrom f i 0 ++ (i ∷ []) = rw (indices-more f i, e) in
-      let room : length (indicesFrom f i 0) < length old = omega (arith, h .few, h .counted) in
-      let long : length (indicesFrom f (i + 1) 0) ≡ suc (length (indicesFrom f i 0)) = rw (more, length-append) (omega arith) in
       record {
-        counted = rw long (omega (arith, h .counted));
+        counted = rw (more, length-append) (omega (arith, h .counted));
         few = omega (arith, h .few);
-        is =
-            rw (h .is, drop-cons old (length (indicesFrom f i 0)) 0 room, set-at (indicesFrom f i 0) _ _ i count (sym (h .counted)), long, more, append-assoc);
+        is = rw (h .is, more) (front-more (indicesFrom f i 0) old count i (h .counted) (omega (arith, h .few)));
       }

@@ -3,14 +3,17 @@
 use mathlib.Core.Path.{_≡_, refl, ap, sym, _∙_}
 use mathlib.Core.List.{List, [], _++_, append-assoc, append-nil}
 use mathlib.Core.Logic.{by-cases}
+use mathlib.Core.Bool.{cond}
 use Prim.Native.Nat.{ℕ, zero, suc, _+_, _*_, _-_, _≤_, _<_, zero-le}
 use native.Mathlib.Decide.{decLt}
 use native.Mathlib.Nat.{zero-mul, suc-mul, add-zero, not-suc-le-zero, zero-add, mul-le-mul-right}
 use native.Mathlib.Numerals.{add-one}
 use native.Mathlib.Omega.{arith}
+use lib.Dec.{eqb}
 use lib.ListN.{length, getD, take, drop, set, length-append, length-drop, take-append-drop}
 use lib.Seq.{length-take-le, take-at, drop-at, drop-drop, getD-take, getD-drop, drop-length, take-set-le, take-set-lt, drop-set-lt, drop-set-add}
-use borrow.Rule.Slice.PartMut.{putMid}
+use borrow.Rule.Slice.PartMut.{putMid, put-same}
+use borrow.Author.Tests.{eq-eqb, ne-eqb}
 use Rattle.columns.specs.Column.{part, concatRowsFrom, concatRows}
 use Rattle.columns.proofs.Members.{none-in}
 
@@ -30,6 +33,17 @@ concatRows-more (suc n) i f =
     let e : suc n + 1 ≡ suc (n + 1) = omega arith in
     let k : suc i + n ≡ i + suc n = omega arith in
     rw (e, concatRowsFrom, concatRows-more n (suc i) f, append-assoc, k)
+
+-- rows that are the same, joined
+same-from : (f g : ℕ → List ℕ) (n i : ℕ) → ((k : ℕ) → k < n → f (i + k) ≡ g (i + k)) → concatRowsFrom i n f ≡ concatRowsFrom i n g
+unfolding concatRowsFrom
+same-from f g zero i h = refl
+same-from f g (suc n) i h =
+    let e : f i ≡ g i = rw (add-zero i) at (h 0 (omega arith)) in
+    rw (e, same-from f g n (suc i) (λ k l. let e : suc i + k ≡ i + suc k = omega arith in rw e (h (suc k) (omega arith))))
+
+pub concatRows-same : (f g : ℕ → List ℕ) (n : ℕ) → ((k : ℕ) → k < n → f k ≡ g k) → concatRows n f ≡ concatRows n g
+concatRows-same f g n h = same-from f g n 0 (λ k l. rw (zero-add k) (h k l))
 
 module _ (w : ℕ) (f : ℕ → List ℕ) where
   length-from : (n i : ℕ) → ((k : ℕ) → k < n → length (f (i + k)) ≡ w) → length (concatRowsFrom i n f) ≡ n * w
@@ -149,8 +163,39 @@ module _ {w : ℕ} {f : ℕ → List ℕ} {s : List ℕ} {i : ℕ} {now : List �
             rw (h .is, take-at (concatRows i f) (drop (i * w) s) (i * w) (h .long), drop-at (concatRows i f) (drop (i * w) s) (i * w) (h .long), drop-drop, more, append-assoc, e, next);
       }
 
+  -- and a row that is to stay as it came need not be lent
+  pub written-skip : f i ≡ part w s i → i * w + w ≤ length s → Written w f s (i + 1) now
+  written-skip e l =
+      rw (put-same (i * w) w now) at
+      (written-more {r = part w now i} (written-lent ∙ sym e) (ap length written-lent ∙ length-part w s i l))
+
   -- once every row is written
   pub written-all : (n : ℕ) → i ≡ n → length s ≡ n * w → now ≡ concatRows n f
   written-all n e l =
       let over : drop (n * w) s ≡ [] = rw (← l) (drop-length s) in
       rw (h .is, e, over, append-nil)
+
+-- ---- a list in which row n is replaced
+
+module _ (w k : ℕ) (s : List ℕ) (long : length s ≡ k * w) (n : ℕ) (inside : n < k) (new : List ℕ) (whole : length new ≡ w) where
+  abbrev rule : ℕ → List ℕ
+  rule i = cond (eqb i n) new (part w s i)
+
+  fits : (i : ℕ) → i < k → i * w + w ≤ length s
+  fits i l = omega (arith, suc-mul i w, mul-le-mul-right w l)
+
+  stays : (i : ℕ) → ¬ (i ≡ n) → rule i ≡ part w s i
+  stays i h = rw (ne-eqb i n h)
+
+  up-to : (i : ℕ) → i ≤ n → Written w rule s i s
+  up-to zero h = written-none
+  up-to (suc i) h = rw (add-one i) at (written-skip (up-to i (omega arith)) (stays i (λ e. omega arith)) (fits i (omega arith)))
+
+  from : (d : ℕ) → n + 1 + d ≤ k → Written w rule s (n + 1 + d) (putMid (n * w) w s new)
+  from zero h = rw (add-zero (n + 1)) (written-more (up-to n (omega arith)) {r = new} (rw (eq-eqb n n refl)) whole)
+  from (suc d) h =
+      let next : n + 1 + suc d ≡ n + 1 + d + 1 = omega arith in
+      rw next (written-skip (from d (omega arith)) (stays (n + 1 + d) (λ e. omega arith)) (fits (n + 1 + d) (omega arith)))
+
+  pub rows-put : putMid (n * w) w s new ≡ concatRows k (λ i. cond (eqb i n) new (part w s i))
+  rows-put = written-all (from (k - (n + 1)) (omega arith)) k (omega arith) long

@@ -1,8 +1,9 @@
-// What every crate above shares: a byte of a slice, whether two slices are the same, a copy of one, the larger of two levels, and the answer of a search.
+// What every crate above shares: a byte of a slice, whether two slices are the same, a copy of one, a column of one number, the larger of two levels, and
+// the answer of a search.
 ghost use mathlib.Core.Path.{_≡_};
 ghost use Prim.Native.Nat.{max};
 ghost use lib.ListN.{length, getD};
-ghost use Rattle.columns.specs.Column.{same};
+ghost use Rattle.columns.specs.Column.{tabulate, same};
 
 // The answer of a search: an index, or nothing.
 pub enum Found {
@@ -50,5 +51,14 @@ pub fn copy(from: &[u8], to: &mut [u8])
 {
     for i in 0..from.len() {
         to[i] = from[i];
+    }
+}
+
+// Writes one number to every entry of a column.
+pub fn fill(column: &mut [u16], number: u16)
+    ensures { λ _. ⌜ now (column .exit) ≡ tabulate (length (now (column .entry))) (λ _. number) ⌝ }
+{
+    for i in 0..column.len() {
+        column[i] = number;
     }
 }

@@ -1,3 +1,4 @@
 pub mod Halving
 pub mod Near
 pub mod Slotted
+pub mod Rising

@@ -1,20 +1,22 @@
 -- Laws: in an accepted table a dust's level reaches a row only from the few positions that have slots.
 -- Assumes nothing.
 use mathlib.Core.Path.{_≡_, refl, ap, sym, _∙_}
-use mathlib.Core.Bool.{Bool, true, false≢true}
+use mathlib.Core.Bool.{Bool, true, false, cond, false≢true}
 use mathlib.Core.Logic.{⊎-elim}
 use mathlib.Core.List.{List, [], _∷_, List·Memᴰ, List·Memᴰ·head, List·Memᴰ·tail}
 use Prim.Native.Nat.{ℕ, _<_}
 use native.Mathlib.Omega.{arith}
+use lib.Dec.{eqb}
+use lib.IntN.{ℤ}
 use Rattle.columns.specs.Column.{Bytes}
 use Rattle.columns.proofs.Truth.{and-true, or-true}
 use Rattle.columns.proofs.Members.{all-member}
 use Rattle.blocks.specs.Kind.{isDust}
 use Rattle.places.specs.declared.Pos.{Pos}
 use Rattle.places.specs.Signed.{zeroZ, one, minusOne}
-use Rattle.places.specs.Places.{North, East, South, West, horizontals, opposite, beside, above, below, samePos}
+use Rattle.places.specs.Places.{horizontals, opposite, beside, above, below, samePos}
 use Rattle.places.proofs.Order.{samePos-true}
-use Rattle.places.proofs.Steps.{InRange, sideways, offset-back, sideways-back, opposite-horizontal, above-beside, below-beside, aroundAlong, around}
+use Rattle.places.proofs.Steps.{InRange, sideways, offset-back, sideways-back, opposite-horizontal, over-beside, down, up, aroundAlong, around}
 use Rattle.world.specs.Rows.{rows, posOf, kindOf}
 use Rattle.traits.specs.Traits.{traits}
 use Rattle.refusals.specs.Accepted.{Table}
@@ -22,7 +24,7 @@ use Rattle.refusals.proofs.Accepted.{in-range}
 use Rattle.wire.specs.Transfer.{transmitsBy}
 use Rattle.wire.proofs.Around.{transmits-around}
 use Rattle.edges.specs.Edges.{someOf, armTo, alongArm, dustToWeakBy}
-use Rattle.gather.specs.Slots.{aroundAt, overAt}
+use Rattle.gather.specs.Slots.{aroundFacing, aroundHeight, aroundAt, overAt}
 
 -- the position n is the one at some k below w
 pub record Among (w : ℕ) (at : ℕ → Pos) (n : Pos) : Type 0 where
@@ -32,55 +34,52 @@ pub record Among (w : ℕ) (at : ℕ → Pos) (n : Pos) : Type 0 where
 
 -- ---- the twelve positions around q
 
+-- the step from the cell beside to one at this height
+abbrev pub heightOffset : ℕ → ℤ
+heightOffset h = cond (eqb h 0) minusOne (cond (eqb h 1) zeroZ one)
+
 module _ (q : Pos) (r : InRange q) where
-  lower : (k f : ℕ) → k < 12 → List·Memᴰ f horizontals → aroundAt q k ≡ below (beside q f) → Among 12 (aroundAt q) (sideways q f minusOne)
-  lower k f h m e = record { place = k; inside = h; is = e ∙ below-beside q r f m }
+  -- as one step from q
+  pub around-sideways : (k : ℕ) → aroundAt q k ≡ sideways q (aroundFacing k) (heightOffset (aroundHeight k))
+  unfolding aroundAt beside
+  around-sideways k = go (aroundFacing k) (eqb (aroundHeight k) 0) (eqb (aroundHeight k) 1)
+    where
+      go : (f : ℕ) (low mid : Bool)
+          → cond low (below (beside q f)) (cond mid (beside q f) (above (beside q f))) ≡ sideways q f (cond low minusOne (cond mid zeroZ one))
+      go f true mid = over-beside q r f down
+      go f false true = refl
+      go f false false = over-beside q r f up
 
-  beside-it : (k f : ℕ) → k < 12 → aroundAt q k ≡ sideways q f zeroZ → Among 12 (aroundAt q) (sideways q f zeroZ)
-  beside-it k f h e = record { place = k; inside = h; is = e }
-
-  upper : (k f : ℕ) → k < 12 → List·Memᴰ f horizontals → aroundAt q k ≡ above (beside q f) → Among 12 (aroundAt q) (sideways q f one)
-  upper k f h m e = record { place = k; inside = h; is = e ∙ above-beside q r f m }
-
-  north : List·Memᴰ North horizontals
-  north = List·Memᴰ·head refl
-
-  east : List·Memᴰ East horizontals
-  east = List·Memᴰ·tail (List·Memᴰ·head refl)
-
-  south : List·Memᴰ South horizontals
-  south = List·Memᴰ·tail (List·Memᴰ·tail (List·Memᴰ·head refl))
-
-  west : List·Memᴰ West horizontals
-  west = List·Memᴰ·tail (List·Memᴰ·tail (List·Memᴰ·tail (List·Memᴰ·head refl)))
+  here : (k : ℕ) → k < 12 → Among 12 (aroundAt q) (sideways q (aroundFacing k) (heightOffset (aroundHeight k)))
+  here k h = record { place = k; inside = h; is = around-sideways k }
 
   pub around-among : (n : Pos) → List·Memᴰ n (around q) → Among 12 (aroundAt q) n
-  unfolding aroundAlong aroundAt beside
+  unfolding aroundAlong
   around-among =
       all-member (Among 12 (aroundAt q)) (around q) (
-        lower 3 North (omega arith) north refl,
+        here 3 (omega arith),
         (
-          beside-it 5 North (omega arith) refl,
+          here 5 (omega arith),
           (
-            upper 7 North (omega arith) north refl,
+            here 7 (omega arith),
             (
-              lower 9 East (omega arith) east refl,
+              here 9 (omega arith),
               (
-                beside-it 10 East (omega arith) refl,
+                here 10 (omega arith),
                 (
-                  upper 11 East (omega arith) east refl,
+                  here 11 (omega arith),
                   (
-                    lower 4 South (omega arith) south refl,
+                    here 4 (omega arith),
                     (
-                      beside-it 6 South (omega arith) refl,
+                      here 6 (omega arith),
                       (
-                        upper 8 South (omega arith) south refl,
+                        here 8 (omega arith),
                         (
-                          lower 0 West (omega arith) west refl,
+                          here 0 (omega arith),
                           (
-                            beside-it 1 West (omega arith) refl,
+                            here 1 (omega arith),
                             (
-                              upper 2 West (omega arith) west refl,
+                              here 2 (omega arith),
                               tt,
                             ),
                           ),

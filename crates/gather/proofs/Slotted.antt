@@ -12,7 +12,7 @@ use Rattle.columns.specs.Column.{Bytes, Column, row}
 use Rattle.columns.specs.declared.Found.{Found}
 use Rattle.columns.specs.declared.Found.the-variants.{At, Nothing}
 use Rattle.columns.proofs.Columns.{row-tabulate}
-use Rattle.columns.proofs.Truth.{and-true}
+use Rattle.columns.proofs.Truth.{and-true, refuted}
 use Rattle.network.specs.Levels.{top, arriving}
 use Rattle.network.specs.Laws.Gather.{le-top, top-least}
 use Rattle.blocks.specs.Kind.{isDust}
@@ -30,6 +30,30 @@ use Rattle.edges.specs.Edges.{dustToWeakBy, dustToWeak}
 use Rattle.gather.specs.Slots.{aroundAt, overAt, noRow, slotOf, feederAt, underAt, feeders, unders}
 use Rattle.network.specs.Laws.Top.{top-same, top-less}
 use Rattle.gather.proofs.Near.{Among, transmits-near, dustToWeak-near}
+
+-- ---- what a slot says of the rows at its position
+
+module _ (t : Bytes) (a : Table t) (edge : ℕ → Bool) (q : Pos) where
+  -- the row that it names stands there and has the edge
+  pub slot-row : (j : ℕ) → slotOf edge (find t q) ≡ j → ¬ (j ≡ noRow) → (j < rows t) × (posOf t j ≡ q) × (edge j ≡ true)
+  unfolding slotOf
+  slot-row j s n = go (find t q) refl s
+    where
+      here : (m : ℕ) → find t q ≡ At m → (b c : Bool) → edge m ≡ c → cond (b && c) m noRow ≡ j → (j < rows t) × (posOf t j ≡ q) × (edge j ≡ true)
+      here m e true true f s = let (inside, stands) = found-stands t q m e in (rw (← s) inside, rw (← s) stands, rw (← s) f)
+      here m e true false f s = absurd (n (sym s))
+      here m e false c f s = absurd (n (sym s))
+
+      go : (x : Found) → find t q ≡ x → slotOf edge x ≡ j → (j < rows t) × (posOf t j ≡ q) × (edge j ≡ true)
+      go (At m) e s = here m e (ltb m noRow) (edge m) refl s
+      go Nothing e s = absurd (n (sym s))
+
+  -- where it is empty no row that stands there has it
+  pub slot-none : slotOf edge (find t q) ≡ noRow → (j : ℕ) → j < rows t → posOf t j ≡ q → edge j ≡ false
+  unfolding slotOf
+  slot-none s j l stands = refuted (edge j) λ e.
+      let none : j ≡ noRow = rw (find-at t a q j l stands, lt-ltb j noRow (omega (arith, a .few)), e) at s in
+      omega (arith, a .few)
 
 -- ---- slots at the positions from which the edges to row i can come
 
@@ -83,14 +107,18 @@ guarded false edge (At j) h = go (ltb j noRow) (edge j) refl
 
 -- ---- the columns of slots
 
+-- no test of the sink's own kind is needed
+pub feeder-slot : (p t : Bytes) (i k : ℕ) → feederAt p t i k ≡ slotOf (λ j. transmits p t j i) (find t (aroundAt (posOf t i) k))
+unfolding feederAt
+feeder-slot p t i k = guarded (isDust (kindOf t i)) _ _ (λ j e. transmits-dust (armOf p t) p t j i e .1)
+
 module _ (p t : Bytes) (i : ℕ) (l : i < rows t) where
   feeder-row : (k : ℕ) → k < 12 → row (feeders p t (rows t * 12)) (i * 12 + k) ≡ slotOf (λ j. transmits p t j i) (find t (aroundAt (posOf t i) k))
-  unfolding feederAt
   feeder-row k h =
       let row-is : (i * 12 + k) / 12 ≡ i = omega arith in
       let slot-is : (i * 12 + k) % 12 ≡ k = omega arith in
       row-tabulate (rows t * 12) (λ m. feederAt p t (m / 12) (m % 12)) (i * 12 + k) (omega arith)
-      ∙ rw (row-is, slot-is) (guarded (isDust (kindOf t i)) _ _ (λ j e. transmits-dust (armOf p t) p t j i e .1))
+      ∙ rw (row-is, slot-is) (feeder-slot p t i k)
 
   dustToWeak-row : (k : ℕ) → k < 5 → row (unders p t (rows t * 5)) (i * 5 + k) ≡ slotOf (λ j. dustToWeak p t j i) (find t (overAt (posOf t i) k))
   unfolding underAt dustToWeakBy

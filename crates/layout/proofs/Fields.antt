@@ -165,6 +165,14 @@ module _ (t u : Bytes) (i j : ℕ) where
 inside : (f : Field) → first f + width f ≤ 32
 inside f = leb-true (first f + width f) 32 (every-at (λ f. leb (first f + width f) 32) refl f)
 
+-- two rows with the same bytes are good alike
+pub good-same : (t u : Bytes) (i j : ℕ) → ((b : ℕ) → b < 32 → byteOf u j b ≡ byteOf t i b) → goodRow u j ≡ goodRow t i
+good-same t u i j agree =
+    let same : (f : Field) → goodField u j f ≡ goodField t i f = λ f. same-field t u i j f (λ k l. agree (first f + k) (omega (arith, inside f))) in
+    fieldwise u j
+    ∙ rw (same Place, same Kind, same Facing, same Powered, same Level, same Delay, same Support, same Arms, same Shape, same Mode, same Zero30, same Zero31)
+    (sym (fieldwise t i))
+
 -- ---- a row by itself
 
 module _ (t : Bytes) (i : ℕ) where

@@ -1,3 +1,4 @@
 pub mod Signs
 pub mod Order
 pub mod Steps
+pub mod Near

@@ -104,6 +104,17 @@ cases-before p q (by-z e f h) =
     or-right (ltZ (p .x) (q .x)) _
     (both (eqZ (p .x) (q .x)) _ (same e) (or-right (ltZ (p .y) (q .y)) _ (both (eqZ (p .y) (q .y)) _ (same f) (h .less))))
 
+-- by x, then y, then z
+module _ (p q : Pos) where
+  pub before-x : ltZ (p .x) (q .x) ≡ true → before p q ≡ true
+  before-x h = cases-before p q (by-x (record { less = h }))
+
+  pub before-y : p .x ≡ q .x → ltZ (p .y) (q .y) ≡ true → before p q ≡ true
+  before-y e h = cases-before p q (by-y e (record { less = h }))
+
+  pub before-z : p .x ≡ q .x → p .y ≡ q .y → ltZ (p .z) (q .z) ≡ true → before p q ≡ true
+  before-z e f h = cases-before p q (by-z e f (record { less = h }))
+
 pub before-irrefl : (p : Pos) → before p p ≡ true → ⊥
 before-irrefl p h = go (before-cases p p h)
   where

@@ -1,20 +1,18 @@
 -- Laws of small steps from an accepted position: no sum stops at an end, so that a step is undone by the opposite one.
 -- Assumes nothing.
-use mathlib.Core.Path.{_≡_, refl, ap, sym, _∙_}
-use mathlib.Core.Logic.{⊎-elim}
-use mathlib.Core.Bool.{Bool, true, false, cond, _&&_}
+use mathlib.Core.Path.{_≡_, refl, ap, _∙_}
+use mathlib.Core.Bool.{Bool, true, false, cond}
 use mathlib.Core.List.{List, [], _∷_, List·Memᴰ, List·Memᴰ·head, List·Memᴰ·tail}
-use Prim.Native.Nat.{ℕ, zero, suc, _+_, _*_, _-_, _≤_, _<_}
+use Prim.Native.Nat.{ℕ, zero, suc, _+_, _-_, _≤_}
 use native.Mathlib.Omega.{arith}
-use lib.Dec.{leb, ltb}
+use lib.Dec.{eqb, ltb}
 use lib.IntN.{ℤ, pos, negsuc, negℤ, subℕ, _+ℤ_, +ℤ-idr, +ℤ-negℤ-cancel}
 use lib.Signed.{mag}
-use borrow.Author.Tests.{leb-true, lt-ltb, le-ltb}
-use Rattle.columns.proofs.Truth.{and-true, or-true}
+use borrow.Author.Tests.{le-ltb}
 use Rattle.columns.proofs.Members.{all-member}
 use Rattle.places.specs.declared.Pos.{Pos}
-use Rattle.places.specs.Signed.{zeroZ, one, minusOne, signed32, clamp32, satAdd}
-use Rattle.places.specs.Places.{North, East, South, West, horizontals, offset, opposite, step, beside, above, below, neighbours}
+use Rattle.places.specs.Signed.{zeroZ, one, minusOne, clamp32, satAdd}
+use Rattle.places.specs.Places.{North, East, South, West, horizontals, cell, offset, opposite, step, beside}
 
 -- ---- one coordinate
 
@@ -30,7 +28,7 @@ mag-sub a b = go (ltb a b) refl
     go true h = omega arith
     go false h = omega arith
 
-mag-sum : (a d : ℤ) → mag (a +ℤ d) ≤ mag a + mag d + 1
+pub mag-sum : (a d : ℤ) → mag (a +ℤ d) ≤ mag a + mag d + 1
 mag-sum (pos a) (pos b) = omega arith
 mag-sum (pos a) (negsuc b) = omega (arith, mag-sub a (suc b))
 mag-sum (negsuc a) (pos b) = omega (arith, mag-sub b (suc a))
@@ -46,7 +44,7 @@ pub sum-exact : (a d : ℤ) → mag (a +ℤ d) ≤ 2147483647 → satAdd a d ≡
 unfolding satAdd
 sum-exact a d h = clamp-exact (a +ℤ d) h
 
-satAdd-exact : (a d : ℤ) → mag a ≤ 2000000 → mag d ≤ 2 → satAdd a d ≡ a +ℤ d
+pub satAdd-exact : (a d : ℤ) → mag a ≤ 2000000 → mag d ≤ 2 → satAdd a d ≡ a +ℤ d
 satAdd-exact a d g h = sum-exact a d (omega (arith, mag-sum a d))
 
 satAdd-none : (a : ℤ) → mag a ≤ 2000000 → satAdd a zeroZ ≡ a
@@ -86,25 +84,56 @@ module _ (q : Pos) (r : InRange q) (dx dy dz : ℤ) (hx : mag dx ≤ 1) (hy : ma
 
 -- ---- along the four facings
 
+-- a step along one axis: down or back, none, up or forth
+pub data Step : ℤ → Type 0 where
+  down : Step minusOne
+  level : Step zeroZ
+  up : Step one
+
+pub step-small : {d : ℤ} → Step d → mag d ≤ 1
+step-small down = omega arith
+step-small level = omega arith
+step-small up = omega arith
+
+pub step-back : {d : ℤ} → Step d → Step (negℤ d)
+step-back down = up
+step-back level = level
+step-back up = down
+
+-- the step along any facing, on the two level axes
+pub facing-step : (f : ℕ) → Step (step f .x) × Step (step f .z)
+unfolding step
+facing-step f = go (eqb f North) (eqb f East) (eqb f South) (eqb f West)
+  where
+    along : Bool → Bool → Bool → Bool → Pos
+    along north east south west =
+        cond north (cell zeroZ zeroZ minusOne)
+        (cond east (cell one zeroZ zeroZ) (cond south (cell zeroZ zeroZ one) (cond west (cell minusOne zeroZ zeroZ) (cell zeroZ zeroZ zeroZ))))
+
+    go : (north east south west : Bool) → Step (along north east south west .x) × Step (along north east south west .z)
+    go true e s w = (level, down)
+    go false true s w = (up, level)
+    go false false true w = (level, up)
+    go false false false true = (down, level)
+    go false false false false = (level, level)
+
 -- the step along the opposite facing is the opposite step
 record Turned (f : ℕ) : Type 0 where
   stays : List·Memᴰ (opposite f) horizontals
   x : step (opposite f) .x ≡ negℤ (step f .x)
   z : step (opposite f) .z ≡ negℤ (step f .z)
-  small-x : mag (step f .x) ≤ 1
-  small-z : mag (step f .z) ≤ 1
 
 turned : (f : ℕ) → List·Memᴰ f horizontals → Turned f
 unfolding opposite step
 turned =
     all-member Turned horizontals (
-      record { stays = List·Memᴰ·tail (List·Memᴰ·tail (List·Memᴰ·head refl)); x = refl; z = refl; small-x = omega arith; small-z = omega arith },
+      record { stays = List·Memᴰ·tail (List·Memᴰ·tail (List·Memᴰ·head refl)); x = refl; z = refl },
       (
-        record { stays = List·Memᴰ·tail (List·Memᴰ·tail (List·Memᴰ·tail (List·Memᴰ·head refl))); x = refl; z = refl; small-x = omega arith; small-z = omega arith },
+        record { stays = List·Memᴰ·tail (List·Memᴰ·tail (List·Memᴰ·tail (List·Memᴰ·head refl))); x = refl; z = refl },
         (
-          record { stays = List·Memᴰ·head refl; x = refl; z = refl; small-x = omega arith; small-z = omega arith },
+          record { stays = List·Memᴰ·head refl; x = refl; z = refl },
           (
-            record { stays = List·Memᴰ·tail (List·Memᴰ·head refl); x = refl; z = refl; small-x = omega arith; small-z = omega arith },
+            record { stays = List·Memᴰ·tail (List·Memᴰ·head refl); x = refl; z = refl },
             tt,
           ),
         ),
@@ -115,62 +144,24 @@ turned =
 abbrev pub sideways : Pos → ℕ → ℤ → Pos
 sideways q f dy = offset q (step f .x) dy (step f .z)
 
-module _ (q : Pos) (r : InRange q) (f : ℕ) (m : List·Memᴰ f horizontals) where
-  pub opposite-horizontal : List·Memᴰ (opposite f) horizontals
-  opposite-horizontal = turned f m .stays
+module _ (q : Pos) (r : InRange q) (f : ℕ) where
+  module _ (m : List·Memᴰ f horizontals) where
+    pub opposite-horizontal : List·Memᴰ (opposite f) horizontals
+    opposite-horizontal = turned f m .stays
 
-  -- from a cell sideways of q the opposite facing leads back to q
-  pub sideways-back : (dy : ℤ) → mag dy ≤ 1 → sideways (sideways q f dy) (opposite f) (negℤ dy) ≡ q
-  sideways-back dy h =
-      let o : Turned f = turned f m in
-      rw (o .x, o .z) (offset-back q r (step f .x) dy (step f .z) (o .small-x) h (o .small-z))
+    -- from a cell sideways of q the opposite facing leads back to q
+    pub sideways-back : (dy : ℤ) → mag dy ≤ 1 → sideways (sideways q f dy) (opposite f) (negℤ dy) ≡ q
+    sideways-back dy h =
+        let o : Turned f = turned f m in
+        let (x, z) = facing-step f in
+        rw (o .x, o .z) (offset-back q r (step f .x) dy (step f .z) (step-small x) h (step-small z))
 
-  pub above-beside : above (beside q f) ≡ sideways q f one
+  -- the cell above or below the one beside
+  pub over-beside : {dy : ℤ} → Step dy → offset (beside q f) zeroZ dy zeroZ ≡ sideways q f dy
   unfolding beside
-  above-beside =
-      let o : Turned f = turned f m in offset-both q r (step f .x) one (step f .z) (o .small-x) (omega arith) (o .small-z)
-
-  pub below-beside : below (beside q f) ≡ sideways q f minusOne
-  unfolding beside
-  below-beside =
-      let o : Turned f = turned f m in offset-both q r (step f .x) minusOne (step f .z) (o .small-x) (omega arith) (o .small-z)
-
--- ---- the six neighbours
-
-module _ (q : Pos) (r : InRange q) where
-  beside-back : (f : ℕ) → List·Memᴰ f horizontals → q ≡ beside (beside q f) (opposite f)
-  unfolding beside
-  beside-back f m = sym (sideways-back q r f m zeroZ (omega arith))
-
-  above-back : q ≡ above (below q)
-  above-back = sym (offset-back q r zeroZ minusOne zeroZ (omega arith) (omega arith) (omega arith))
-
-  below-back : q ≡ below (above q)
-  below-back = sym (offset-back q r zeroZ one zeroZ (omega arith) (omega arith) (omega arith))
-
-  -- whoever is a neighbour of q has q for a neighbour
-  pub neighbour-back : (n : Pos) → List·Memᴰ n (neighbours q) → List·Memᴰ q (neighbours n)
-  unfolding opposite
-  neighbour-back =
-      all-member (λ n. List·Memᴰ q (neighbours n)) (neighbours q) (
-        List·Memᴰ·tail (List·Memᴰ·head (beside-back East (List·Memᴰ·tail (List·Memᴰ·head refl)))),
-        (
-          List·Memᴰ·head (beside-back West (List·Memᴰ·tail (List·Memᴰ·tail (List·Memᴰ·tail (List·Memᴰ·head refl))))),
-          (
-            List·Memᴰ·tail (List·Memᴰ·tail (List·Memᴰ·tail (List·Memᴰ·head below-back))),
-            (
-              List·Memᴰ·tail (List·Memᴰ·tail (List·Memᴰ·head above-back)),
-              (
-                List·Memᴰ·tail (List·Memᴰ·tail (List·Memᴰ·tail (List·Memᴰ·tail (List·Memᴰ·tail (List·Memᴰ·head (beside-back South (List·Memᴰ·tail (List·Memᴰ·tail (List·Memᴰ·head refl))))))))),
-                (
-                  List·Memᴰ·tail (List·Memᴰ·tail (List·Memᴰ·tail (List·Memᴰ·tail (List·Memᴰ·head (beside-back North (List·Memᴰ·head refl)))))),
-                  tt,
-                ),
-              ),
-            ),
-          ),
-        ),
-      )
+  over-beside {dy} y =
+      let (x, z) = facing-step f in
+      offset-both q r (step f .x) dy (step f .z) (step-small x) (step-small y) (step-small z)
 
 -- ---- the positions around q
 
@@ -181,12 +172,6 @@ aroundAlong q (f ∷ fs) = sideways q f minusOne ∷ sideways q f zeroZ ∷ side
 
 abbrev pub around : Pos → List Pos
 around q = aroundAlong q horizontals
-
--- a step by dy is down, level or up
-pub data Step : ℤ → Type 0 where
-  down : Step minusOne
-  level : Step zeroZ
-  up : Step one
 
 pub is-around : (q : Pos) (fs : List ℕ) (f : ℕ) → List·Memᴰ f fs → {dy : ℤ} → Step dy → List·Memᴰ (sideways q f dy) (aroundAlong q fs)
 unfolding aroundAlong

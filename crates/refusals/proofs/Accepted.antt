@@ -59,6 +59,11 @@ accepted-table kinds t h = accepted-rows kinds t h .0
 pub accepted-of-kinds : (kinds : ℕ) (t : Bytes) → checkTable kinds t ≡ Accepted → OfKinds kinds t
 accepted-of-kinds kinds t h = accepted-rows kinds t h .1
 
+-- no row of it is overdriven
+pub not-driven : (t : Bytes) → Table t → (i : ℕ) → i < rows t → isOverdriven t i ≡ false
+not-driven t a i l =
+    by-cases (ℕ-discrete (kindOf t i) Comparator) (λ k. rw (k, le-ltb _ _ (a .low i l k))) (λ n. rw (ne-eqb (kindOf t i) Comparator n))
+
 -- and a table that is so is accepted
 pub table-accepted : (kinds : ℕ) (t : Bytes) → Table t → OfKinds kinds t → checkTable kinds t ≡ Accepted
 unfolding checkTable checkRows
@@ -67,11 +72,7 @@ table-accepted kinds t a k =
     (unless-passes 3 (leb (rows t) 1024) _ (le-leb _ 1024 (a .few))
     (rows-pass 4 0 (isBad kinds t) (rows t) _ (λ i l. rw (a .good i l, lt-ltb _ kinds (k i l)))
     (rows-pass 5 1 (isMisplaced t) (rows t - 1) _ (λ i l. ap not (a .ordered i (omega arith)))
-    (rows-pass 10 0 (isOverdriven t) (rows t) Accepted not-driven refl))))
-  where
-    not-driven : (i : ℕ) → i < rows t → isOverdriven t i ≡ false
-    not-driven i l =
-        by-cases (ℕ-discrete (kindOf t i) Comparator) (λ k. rw (k, le-ltb _ _ (a .low i l k))) (λ n. rw (ne-eqb (kindOf t i) Comparator n))
+    (rows-pass 10 0 (isOverdriven t) (rows t) Accepted (not-driven t a) refl))))
 
 -- of a call with the profile
 pub accepted-kinds : (p t : Bytes) → checkInput p t ≡ Accepted → OfKinds (length p) t

@@ -20,7 +20,7 @@ use Rattle.world.specs.Rows.{rows}
 use Rattle.refusals.specs.declared.Checked.{Checked}
 use Rattle.refusals.specs.declared.Checked.the-variants.{Accepted, Refused}
 use Rattle.layout.specs.Good.{goodProfile}
-use Rattle.refusals.specs.Check.{refuseUnless, refuseAt, orElse, also, isBad, isMisplaced, isOverdriven, isOverdrivenDevice, checkRows, checkTable, checkInput, checkValues}
+use Rattle.refusals.specs.Check.{refuseRowUnless, refuseUnless, refuseAt, orElse, also, isBad, isMisplaced, isOverdriven, isOverdrivenDevice, checkRows, checkTable, checkInput, checkValues}
 use Rattle.refusals.specs.Answers.{Gives, ofTable, ofInput}
 use Rattle.refusals.proofs.Passed.{never}
 
@@ -41,9 +41,12 @@ module _ {ns : List ℕ} (n : ℕ) (h : oneOf ns n ≡ true) where
         row = λ m j e. let same : i ≡ j = cc in omega arith;
       }
 
+  pub row-unless-gives : (i : ℕ) → i < 65536 → (b : Bool) (next : Checked) → (b ≡ true → Gives ns next) → Gives ns (refuseRowUnless n i b next)
+  row-unless-gives i l true next g = g refl
+  row-unless-gives i l false next g = refused-gives i l
+
   pub unless-gives : (b : Bool) (next : Checked) → (b ≡ true → Gives ns next) → Gives ns (refuseUnless n b next)
-  unless-gives true next g = g refl
-  unless-gives false next g = refused-gives 0 (omega arith)
+  unless-gives = row-unless-gives 0 (omega arith)
 
   pub also-gives : {c : Checked} (b : Bool) → Gives ns c → Gives ns (also c n b)
   also-gives b g = or-gives _ g (λ _. unless-gives b Accepted (λ _. accepted-gives))

@@ -1,25 +1,29 @@
 -- What a test says that passes, and tests in a row.
 -- Assumes nothing.
 use mathlib.Core.Path.{_≡_, refl, sym}
-use mathlib.Core.Bool.{Bool, true, false}
+use mathlib.Core.Bool.{Bool, true, false, not}
 use Prim.Native.Nat.{ℕ, _+_, _≤_, _<_}
+use native.Mathlib.Nat.{add-zero}
 use native.Mathlib.Omega.{arith}
 use borrow.Author.Tests.{ltb-false, le-ltb}
 use Rattle.columns.specs.declared.Found.{Found}
 use Rattle.columns.specs.declared.Found.the-variants.{At, Nothing}
 use Rattle.refusals.specs.declared.Checked.{Checked}
 use Rattle.refusals.specs.declared.Checked.the-variants.{Accepted, Refused}
-use Rattle.columns.specs.First.{firstFrom}
+use Rattle.columns.specs.First.{foundIf, firstFrom}
 use Rattle.columns.specs.Signal.{maxSignal}
 use Rattle.columns.proofs.First.{first-at, first-none, none-first}
-use Rattle.refusals.specs.Check.{refuseUnless, refuseAt, RowFits, orElse, also, isOverdrivenDevice, checkValues}
+use Rattle.refusals.specs.Check.{refuseRowUnless, refuseUnless, refuseAt, RowFits, orElse, also, isOverdrivenDevice, checkValues}
 
 pub never : {A : Type 0} {n i : ℕ} → Refused n i ≡ Accepted → A
 never e = let z : _≡_ {A = ℕ} 0 1 = cc in absurd (omega arith)
 
+pub passed-row-unless : (n i : ℕ) (b : Bool) (next : Checked) → refuseRowUnless n i b next ≡ Accepted → (b ≡ true) × (next ≡ Accepted)
+passed-row-unless n i true next h = (refl, h)
+passed-row-unless n i false next h = never h
+
 pub passed-unless : (n : ℕ) (b : Bool) (next : Checked) → refuseUnless n b next ≡ Accepted → (b ≡ true) × (next ≡ Accepted)
-passed-unless n true next h = (refl, h)
-passed-unless n false next h = never h
+passed-unless n = passed-row-unless n 0
 
 pub passed-at : (n d : ℕ) (f : Found) (next : Checked) → refuseAt n d f next ≡ Accepted → (f ≡ Nothing) × (next ≡ Accepted)
 passed-at n d (At i) next h = never h
@@ -77,10 +81,22 @@ pub or-assoc : (a b c : Checked) → orElse (orElse a b) c ≡ orElse a (orElse 
 or-assoc Accepted b c = refl
 or-assoc (Refused m i) b c = refl
 
+-- a refusal at the one row that may be found
+pub refuse-only : (m n : ℕ) (b : Bool) (next : Checked) → refuseAt m 0 (foundIf b n Nothing) next ≡ refuseRowUnless m n (not b) next
+refuse-only m n true next = rw (add-zero n) refl
+refuse-only m n false next = refl
+
 -- a test, and those that come next
+row-unless-else : (n i : ℕ) (b : Bool) (c next : Checked) → refuseRowUnless n i b (orElse c next) ≡ orElse (refuseRowUnless n i b c) next
+row-unless-else n i true c next = refl
+row-unless-else n i false c next = refl
+
+-- a test that is made by itself, and what comes next
+pub row-unless-then : (n i : ℕ) (b : Bool) (next : Checked) → orElse (refuseRowUnless n i b Accepted) next ≡ refuseRowUnless n i b next
+row-unless-then n i b next = sym (row-unless-else n i b Accepted next)
+
 pub unless-else : (n : ℕ) (b : Bool) (c next : Checked) → refuseUnless n b (orElse c next) ≡ orElse (refuseUnless n b c) next
-unless-else n true c next = refl
-unless-else n false c next = refl
+unless-else n = row-unless-else n 0
 
 -- a test of rows, and those that come next
 pub rows-else : (n d : ℕ) (f : Found) (c next : Checked) → refuseAt n d f (orElse c next) ≡ orElse (refuseAt n d f c) next

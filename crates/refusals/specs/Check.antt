@@ -20,10 +20,14 @@ use Rattle.layout.specs.Good.{goodProfile, goodRow}
 
 -- ---- one test after the other
 
--- the refusal where the test fails, or what comes next
+-- the refusal of row i where the test fails, or what comes next
+abbrev pub refuseRowUnless : ℕ → ℕ → Bool → Checked → Checked
+refuseRowUnless n i true next = next
+refuseRowUnless n i false next = Refused n i
+
+-- the refusal, row 0, where the test fails, or what comes next
 abbrev pub refuseUnless : ℕ → Bool → Checked → Checked
-refuseUnless n true next = next
-refuseUnless n false next = Refused n 0
+refuseUnless n passed next = refuseRowUnless n 0 passed next
 
 -- the refusal at the row found, d rows on, or what comes next
 abbrev pub refuseAt : ℕ → ℕ → Found → Checked → Checked

@@ -1,4 +1,5 @@
 // The refusals: which of them falls on the inputs of a call, and the number that the call answers then.
+pub mod row;
 mod scan;
 
 use columns::Found;
@@ -6,7 +7,7 @@ ghost use mathlib.Core.Path.{_≡_};
 ghost use Prim.Native.Nat.{_*_, _≤_};
 ghost use lib.ListN.{length, getD};
 ghost use Rattle.refusals.specs.declared.Checked.the-variants as Checked;
-ghost use Rattle.refusals.specs.Check.{refuseUnless, refuseAt, RowFits, orElse, also, checkOverdriven, checkRows, checkTable, checkInput, answerOf};
+ghost use Rattle.refusals.specs.Check.{refuseRowUnless, refuseAt, RowFits, orElse, also, checkOverdriven, checkRows, checkTable, checkInput, answerOf};
 
 // Whether the inputs are accepted, or the number of the refusal that falls on them and the row at fault.
 pub enum Checked {
@@ -14,14 +15,14 @@ pub enum Checked {
     Refused { number: u8, row: u16 },
 }
 
-// The refusal of a test that fails.
-fn refuse_unless(number: u8, passed: bool) -> Checked
-    ensures { λ r. ⌜ r ≡ refuseUnless number passed Checked.Accepted ⌝ }
+// The refusal, at a row, where a test fails.
+pub fn refuse_row_unless(number: u8, row: u16, passed: bool) -> Checked
+    ensures { λ r. ⌜ r ≡ refuseRowUnless number row passed Checked.Accepted ⌝ }
 {
     if passed {
         return Checked::Accepted;
     }
-    Checked::Refused { number, row: 0 }
+    Checked::Refused { number, row }
 }
 
 // The refusal at the row found, so many rows on.
@@ -52,7 +53,7 @@ pub fn or_else(checked: Checked, next: Checked) -> Checked
 pub fn also(checked: Checked, number: u8, passed: bool) -> Checked
     ensures { λ r. ⌜ r ≡ also checked number passed ⌝ }
 {
-    or_else(checked, refuse_unless(number, passed))
+    or_else(checked, refuse_row_unless(number, 0, passed))
 }
 
 // Refusals 4, 5 and 10, over the rows of a table that is not crowded, so that the number of a row fits.

@@ -1,11 +1,9 @@
 // The first row at fault.
-use blocks::kind;
+use crate::row::is_bad;
+use crate::row::is_overdriven;
 use columns::Found;
 use columns::byte_at;
-use layout::good_row;
 use levels::signal::Signal;
-use world::row::kind_of;
-use world::row::level_or;
 use world::row::pos_of;
 ghost use mathlib.Core.Path.{_≡_};
 ghost use Prim.Native.Nat.{_*_, _-_};
@@ -18,11 +16,10 @@ pub fn first_bad(kinds: usize, table: &[u8], rows: usize) -> Found
 {
     let mut i = 0;
     while i < rows {
-        if good_row(table, i) & ((kind_of(table, i) as usize) < kinds) {
-            i += 1;
-        } else {
+        if is_bad(kinds, table, i) {
             return Found::At(i);
         }
+        i += 1;
     }
     Found::Nothing
 }
@@ -48,7 +45,7 @@ pub fn first_overdriven(table: &[u8], rows: usize) -> Found
 {
     let mut i = 0;
     while i < rows {
-        if (kind_of(table, i) == kind::COMPARATOR) & (Signal::MAX < level_or(table, i, 0)) {
+        if is_overdriven(table, i) {
             return Found::At(i);
         }
         i += 1;

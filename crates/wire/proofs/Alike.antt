@@ -3,12 +3,17 @@
 -- Assumes nothing.
 use mathlib.Core.Path.{_≡_, refl, ap}
 use mathlib.Core.Logic.{_⊎_, inl, inr}
-use Prim.Native.Nat.{ℕ, _+_, _/_, _<_}
+use mathlib.Core.Bool.{Bool, true, false, cond}
+use Prim.Native.Nat.{ℕ, _+_, _/_, _≤_, _<_}
 use native.Mathlib.Omega.{arith}
+use lib.Dec.{leb}
 use lib.ListN.{length}
+use borrow.Author.Tests.{leb-true}
 use Rattle.columns.specs.Column.{Bytes}
+use Rattle.columns.proofs.Truth.{and-true}
 use Rattle.places.specs.declared.Pos.{Pos}
-use Rattle.world.specs.Rows.{rows, byteOf, wordOf, posOf, kindOf, facingOf, storedArm}
+use Rattle.places.specs.Places.{North, West, isHorizontal}
+use Rattle.world.specs.Rows.{rows, byteOf, wordOf, posOf, kindOf, facingOf, hasStoredArms, armEntry, storedArm}
 use Rattle.traits.specs.Traits.{traits}
 use Rattle.arms.specs.Arms.{inferWireConnection, armOf}
 use Rattle.wire.specs.Transfer.{transmits}
@@ -30,6 +35,17 @@ Everywhere q = Unit
 
 pub all-hold : (q : Pos) → Holds Everywhere q
 all-hold q = record { over = tt; under = tt; side = λ f e. tt; side-over = λ f e. tt; side-under = λ f e. tt }
+
+-- rows that agree on the bytes of the arms have the same arms stored
+pub same-stored : (t u : Bytes) (i : ℕ) → ((b : ℕ) → 23 ≤ b → b < 28 → byteOf t i b ≡ byteOf u i b) → (f : ℕ) → storedArm t i f ≡ storedArm u i f
+unfolding storedArm armEntry
+same-stored t u i agree f = rw (agree 23 (omega arith) (omega arith)) (go (isHorizontal f) refl)
+  where
+    go : (b : Bool) → isHorizontal f ≡ b → cond (hasStoredArms u i) (cond b (byteOf t i (23 + f)) 0) 0 ≡ cond (hasStoredArms u i) (cond b (byteOf u i (23 + f)) 0) 0
+    go true e =
+        let (_, low) = and-true (leb North f) (leb f West) e in
+        rw (agree (23 + f) (omega arith) (omega (arith, leb-true f West low)))
+    go false e = refl
 
 module _ {t u : Bytes} (a : Alike t u) where
   pub same-rows : rows t ≡ rows u

@@ -30,13 +30,13 @@ table l = start l .args .table .now
 fill-holders-requires : tie.Need-fill-holders-requires Inv-loop μ-loop
 fill-holders-requires c κs = let (table, long, _) = c .before .before .before .before .before .pre in (long, table .few)
 
-unmark-requires : tie.Need-unmark-requires Inv-loop μ-loop
-unmark-requires c κs = search needs
+fill-requires : tie.Need-fill-requires Inv-loop μ-loop
+fill-requires c κs = search needs
 
 loop-holds : tie.Need-loop-holds Inv-loop μ-loop
 loop-holds c =
     let start = c .before .before .before .before .before .before .before .before .before .before .before .before in
-    passing-none (start .args .profile .now) (start .args .table .now) (start .pre .0) (rw (start .pre .2) at (c .before .before .unmark .ensures))
+    passing-none (start .args .profile .now) (start .args .table .now) (start .pre .0) (rw (start .pre .2) at (c .before .before .fill .ensures))
 
 clear-pass-requires : tie.Need-clear-pass-requires Inv-loop μ-loop
 clear-pass-requires c κs =
@@ -96,7 +96,7 @@ clear-passes-spec =
     Inv-loop
     μ-loop
     fill-holders-requires
-    unmark-requires
+    fill-requires
     loop-holds
     clear-pass-requires
     add-pass

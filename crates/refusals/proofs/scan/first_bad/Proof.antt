@@ -1,7 +1,6 @@
 -- `refusals::scan::first_bad` meets its contract. The loop's invariant: the answer is that of the search from row i on. Assumes nothing.
 use borrow.Author.Needs.{needs}
-use mathlib.Core.Path.{_≡_, sym, ap, _∙_}
-use mathlib.Core.Bool.{true, false, not}
+use mathlib.Core.Path.{_≡_, sym, _∙_}
 use Prim.Native.Nat.{_-_, _≤_}
 use native.Mathlib.Nat.{sub-zero}
 use native.Mathlib.Omega.{arith}
@@ -20,14 +19,13 @@ abbrev μ-loop : tie.MeasureT-loop
 loop-holds : tie.Need-loop-holds Inv-loop μ-loop
 loop-holds c = (omega arith, rw sub-zero)
 
-good-row-requires : tie.Need-good-row-requires Inv-loop μ-loop
-good-row-requires c κs = search needs
+is-bad-requires : tie.Need-is-bad-requires Inv-loop μ-loop
+is-bad-requires c κs = search needs
 
-kind-of-requires : tie.Need-kind-of-requires Inv-loop μ-loop
-kind-of-requires c κs = search needs
-
-cast-if1 : tie.Need-cast-if1 Inv-loop μ-loop
-cast-if1 c = search needs
+returns : tie.Need-returns Inv-loop μ-loop
+returns c =
+    let l = c .before .before .before in
+    sym (l .loop .inv .1 ∙ scan-hit _ _ _ (omega arith) (sym (c .before .is-bad .ensures) ∙ c .if1 .taken))
 
 add-i : tie.Need-add-i Inv-loop μ-loop
 add-i c = omega arith
@@ -37,15 +35,8 @@ loop-less c = omega arith
 
 loop-again : tie.Need-loop-again Inv-loop μ-loop
 loop-again c =
-    let l = c .before .before .before .before in
-    let e : isBad (l .before .before .args .kinds) (l .before .before .args .table .now) (l .loop .i) ≡ false = rw (← c .before .before .good-row .ensures, ← c .before .kind-of .ensures) (ap not (c .if1 .taken)) in
-    (omega arith, l .loop .inv .1 ∙ scan-miss _ _ _ (omega arith) e)
-
-returns : tie.Need-returns Inv-loop μ-loop
-returns c =
-    let l = c .before .before .before .before in
-    let e : isBad (l .before .before .args .kinds) (l .before .before .args .table .now) (l .loop .i) ≡ true = rw (← c .before .before .good-row .ensures, ← c .before .kind-of .ensures) (ap not (c .if1 .left)) in
-    sym (l .loop .inv .1 ∙ scan-hit _ _ _ (omega arith) e)
+    let l = c .before .before .before in
+    (omega arith, l .loop .inv .1 ∙ scan-miss _ _ _ (omega arith) (sym (c .before .is-bad .ensures) ∙ c .if1 .left))
 
 returns-2 : tie.Need-returns-2 Inv-loop μ-loop
 returns-2 c = sym (c .before .loop .inv .1 ∙ scan-over _ _ _ (omega arith))
@@ -57,11 +48,9 @@ first-bad-spec =
     Inv-loop
     μ-loop
     loop-holds
-    good-row-requires
-    kind-of-requires
-    cast-if1
+    is-bad-requires
+    returns
     add-i
     loop-less
     loop-again
-    returns
     returns-2)

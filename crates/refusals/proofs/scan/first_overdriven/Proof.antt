@@ -1,7 +1,6 @@
 -- `refusals::scan::first_overdriven` meets its contract. The loop's invariant: the answer is that of the search from row i on. Assumes nothing.
 use borrow.Author.Needs.{needs}
 use mathlib.Core.Path.{_≡_, sym, _∙_}
-use mathlib.Core.Bool.{true, false}
 use Prim.Native.Nat.{_-_, _≤_}
 use native.Mathlib.Nat.{sub-zero}
 use native.Mathlib.Omega.{arith}
@@ -20,17 +19,13 @@ abbrev μ-loop : tie.MeasureT-loop
 loop-holds : tie.Need-loop-holds Inv-loop μ-loop
 loop-holds c = (omega arith, rw sub-zero)
 
-kind-of-requires : tie.Need-kind-of-requires Inv-loop μ-loop
-kind-of-requires c κs = search needs
-
-level-or-requires : tie.Need-level-or-requires Inv-loop μ-loop
-level-or-requires c κs = search needs
+is-overdriven-requires : tie.Need-is-overdriven-requires Inv-loop μ-loop
+is-overdriven-requires c κs = search needs
 
 returns : tie.Need-returns Inv-loop μ-loop
 returns c =
-    let l = c .before .before .before .before in
-    let e : isOverdriven (l .before .before .args .table .now) (l .loop .i) ≡ true = rw (← c .before .before .kind-of .ensures, ← c .before .level-or .ensures) (c .if1 .taken) in
-    sym (l .loop .inv .1 ∙ scan-hit _ _ _ (omega arith) e)
+    let l = c .before .before .before in
+    sym (l .loop .inv .1 ∙ scan-hit _ _ _ (omega arith) (sym (c .before .is-overdriven .ensures) ∙ c .if1 .taken))
 
 add-i : tie.Need-add-i Inv-loop μ-loop
 add-i c = omega arith
@@ -40,9 +35,8 @@ loop-less c = omega arith
 
 loop-again : tie.Need-loop-again Inv-loop μ-loop
 loop-again c =
-    let l = c .before .before .before .before in
-    let e : isOverdriven (l .before .before .args .table .now) (l .loop .i) ≡ false = rw (← c .before .before .kind-of .ensures, ← c .before .level-or .ensures) (c .if1 .left) in
-    (omega arith, l .loop .inv .1 ∙ scan-miss _ _ _ (omega arith) e)
+    let l = c .before .before .before in
+    (omega arith, l .loop .inv .1 ∙ scan-miss _ _ _ (omega arith) (sym (c .before .is-overdriven .ensures) ∙ c .if1 .left))
 
 returns-2 : tie.Need-returns-2 Inv-loop μ-loop
 returns-2 c = sym (c .before .loop .inv .1 ∙ scan-over _ _ _ (omega arith))
@@ -54,8 +48,7 @@ first-overdriven-spec =
     Inv-loop
     μ-loop
     loop-holds
-    kind-of-requires
-    level-or-requires
+    is-overdriven-requires
     returns
     add-i
     loop-less

@@ -1,27 +1,27 @@
--- `clear::unmark` meets its contract. The loop's invariant: the entries passed are 0. Assumes nothing.
+-- `columns::fill` meets its contract. The loop's invariant: the entries passed are the number. Assumes nothing.
 use borrow.Author.Needs.{needs}
 use mathlib.Core.Path.{refl}
 use Prim.Native.Nat.{_-_}
 use native.Mathlib.Omega.{arith}
 use lib.ListN.{length}
 use Rattle.columns.proofs.Columns.{Filled, filled-none, filled-more, filled-all}
-use Rattle.clear.proofs.unmark.Statement.{statement}
-use Rattle.clear.proofs.unmark.Tie as tie
+use Rattle.columns.proofs.fill.Statement.{statement}
+use Rattle.columns.proofs.fill.Tie as tie
 
 abbrev Inv-loop : tie.InvT-loop
-Inv-loop passes₀ i₀ i-end passes i = Filled (λ _. 0) (length passes₀) i passes
+Inv-loop column₀ number i₀ i-end column i = Filled (λ _. number) (length column₀) i column
 
 abbrev μ-loop : tie.MeasureT-loop
-μ-loop passes₀ i₀ i-end passes i = length passes₀ - i
+μ-loop column₀ number i₀ i-end column i = length column₀ - i
 
 loop-holds : tie.Need-loop-holds Inv-loop μ-loop
 loop-holds c = filled-none refl
 
-mul-passes : tie.Need-mul-passes Inv-loop μ-loop
-mul-passes c = search needs
+mul-column : tie.Need-mul-column Inv-loop μ-loop
+mul-column c = search needs
 
-slice-write-passes : tie.Need-slice-write-passes Inv-loop μ-loop
-slice-write-passes c = search needs
+slice-write-column : tie.Need-slice-write-column Inv-loop μ-loop
+slice-write-column c = search needs
 
 add-i : tie.Need-add-i Inv-loop μ-loop
 add-i c = search needs
@@ -38,15 +38,15 @@ same-length c = search needs
 returns : tie.Need-returns Inv-loop μ-loop
 returns c = filled-all (c .before .loop .inv) (omega arith)
 
-pub unmark-spec : {M : Type 1} → statement M
-unmark-spec =
+pub fill-spec : {M : Type 1} → statement M
+fill-spec =
     tie.close
     (tie.spec
     Inv-loop
     μ-loop
     loop-holds
-    mul-passes
-    slice-write-passes
+    mul-column
+    slice-write-column
     add-i
     loop-less
     loop-again
