@@ -1,4 +1,5 @@
--- Calls on a table, each with every byte that it leaves: what demand 3 says of settle, and what the answers of all calls tell.
+-- Calls on a table, each with every byte that it leaves: what demand 3 says of settle, and what the answers tell. Those of Change 9's
+-- calls stand in Feeders.
 -- Assumes nothing.
 use mathlib.Core.Path.{_≡_, refl}
 use mathlib.Core.List.{[], _∷_, _++_}

@@ -28,6 +28,10 @@ use Rattle.redrawing.specs.Drawn.{entryOf, entriesOf, withOpposite, drawn, redr
 use Rattle.emitted.specs.Emitted.{goodDevice, checkDevices, switchLevel, emittedLevel, emitted}
 use Rattle.edges.specs.Edges.{outputsTo, isSupportOf, isNextToRedstoneBlock, isOverTorch, emittedToStrong, strongToWeak, armTo, alongArm, touches, feeds, dustToWeakBy, emittedToDustBy, strongToDustBy, networkOf}
 use Rattle.electrical.specs.Answer.{roundsOf, settled, checkCall, checkSettle}
+use Rattle.feeding.specs.Feeders.{feedersOf, feederEntries, feederList}
+use Rattle.feeding.specs.Replaced.{replaced, isNear, isRenewed, updatedEntries, updatedList}
+use Rattle.feeders.specs.Feeds.{checkFeeders}
+use Rattle.replace.specs.Replace.{checkNew, checkReplace}
 use Rattle.states.specs.Row.{delayOf, bitsSet, isCandidate, goodQueue, goodLight, goodTorch, goodHadPower, goodState}
 use Rattle.fresh.specs.Fresh.{freshDevice, freshQueue, freshLight, freshHadPower, freshRow}
 use Rattle.repeater.specs.Step.{repeaterInputLevel, isRequested, locksFrom, isLocked, nextQueue, repeaterRow}
@@ -49,5 +53,5 @@ use Rattle.totals.specs.Month.{monthOf}
 use Rattle.month_lines.specs.Lines.{numberedLine, numberedLines, monthText, textOf, outputOf as monthOutput}
 
 unfoldable pub computing : ℕ
-unfolding tabulateFrom concatRowsFrom same firstFrom indicesFrom settling says signed32 signed8 clamp32 satAdd samePos before opposite step horizontalOffset beside adjacent posOf supportOf armEntry storedArm firstAtOrPast find kindAt plain ofShape traits traitsAt goodProfile goodPlace goodRow checkRows checkTable checkInput isSupported lacksSupport supportIssues checkSupports posBytes movedRow goodOffset onGround rowsFrom joined insertRow unionRows hasClash mergedRows mergedTable checkMerge tableOf unnamedFrom left firstNone clearing passesOf keptRows keptTable passOf passColumn checkClear ahead outputOf inputOf across sidesOf connects componentConnects joins rises drops inferPast inferWireConnection armOf hasArm fitsHorizontal fitsRise fitsFall fits ruleAlong firstRule transferBy dustTransfer transmitsBy entryOf entriesOf withOpposite drawn redrawnRow updateWireShapes goodDevice checkDevices switchLevel emittedLevel emitted outputsTo isSupportOf isNextToRedstoneBlock isOverTorch emittedToStrong strongToWeak armTo alongArm touches feeds dustToWeakBy emittedToDustBy strongToDustBy networkOf roundsOf settled checkCall checkSettle devicesOf delayOf bitsSet isCandidate goodQueue goodLight goodTorch goodHadPower goodState checkState freshDevice freshDevices freshQueue freshLight freshHadPower freshRow freshState repeaterInputLevel isRequested locksFrom isLocked nextQueue repeaterRow torchSupportIsPowered nextToggles nextCandidate torchRow compared nextComparator deviceRow nextLit nextLeft lampRow nextBulbLight bulbRow lightRow withDevices withLights settledOf setDevices setLights tick ticks checkFresh checkStep checkTick switched decimalWithin decimalOf signedText lineOf rowText settledText refusalText checkRun checkWhole runText settleText readWithin streamOf asStream countBelow sumOf figuresOf monthOf numberedLine numberedLines monthText textOf monthOutput
+unfolding tabulateFrom concatRowsFrom same firstFrom indicesFrom settling says signed32 signed8 clamp32 satAdd samePos before opposite step horizontalOffset beside adjacent posOf supportOf armEntry storedArm firstAtOrPast find kindAt plain ofShape traits traitsAt goodProfile goodPlace goodRow checkRows checkTable checkInput isSupported lacksSupport supportIssues checkSupports posBytes movedRow goodOffset onGround rowsFrom joined insertRow unionRows hasClash mergedRows mergedTable checkMerge tableOf unnamedFrom left firstNone clearing passesOf keptRows keptTable passOf passColumn checkClear ahead outputOf inputOf across sidesOf connects componentConnects joins rises drops inferPast inferWireConnection armOf hasArm fitsHorizontal fitsRise fitsFall fits ruleAlong firstRule transferBy dustTransfer transmitsBy entryOf entriesOf withOpposite drawn redrawnRow updateWireShapes goodDevice checkDevices switchLevel emittedLevel emitted outputsTo isSupportOf isNextToRedstoneBlock isOverTorch emittedToStrong strongToWeak armTo alongArm touches feeds dustToWeakBy emittedToDustBy strongToDustBy networkOf roundsOf settled checkCall checkSettle feedersOf feederEntries feederList replaced isNear isRenewed updatedEntries updatedList checkFeeders checkNew checkReplace devicesOf delayOf bitsSet isCandidate goodQueue goodLight goodTorch goodHadPower goodState checkState freshDevice freshDevices freshQueue freshLight freshHadPower freshRow freshState repeaterInputLevel isRequested locksFrom isLocked nextQueue repeaterRow torchSupportIsPowered nextToggles nextCandidate torchRow compared nextComparator deviceRow nextLit nextLeft lampRow nextBulbLight bulbRow lightRow withDevices withLights settledOf setDevices setLights tick ticks checkFresh checkStep checkTick switched decimalWithin decimalOf signedText lineOf rowText settledText refusalText checkRun checkWhole runText settleText readWithin streamOf asStream countBelow sumOf figuresOf monthOf numberedLine numberedLines monthText textOf monthOutput
 computing = 0

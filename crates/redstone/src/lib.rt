@@ -6,6 +6,8 @@ ghost use Rattle.places.specs.Places.{cell};
 ghost use Rattle.supports.specs.Supports.{Listed};
 ghost use Rattle.merge.specs.Merge.{Merges};
 ghost use Rattle.clear.specs.Clear.{Clears};
+ghost use Rattle.feeders.specs.Feeds.{Feeds};
+ghost use Rattle.replace.specs.Replace.{Replaces};
 ghost use Rattle.redraw.specs.Redraw.{Redraws};
 ghost use Rattle.electrical.specs.Answer.{Settles};
 ghost use Rattle.updates.specs.Calls.{Fresh, Ticks, Switches};
@@ -133,4 +135,28 @@ pub extern "C" fn redstone_clear(
     ensures { λ r. ⌜ Clears (now (profile .entry)) (now (table .entry)) (now (kept .entry)) (now (kept .exit)) (now (passes .entry)) (now (passes .exit)) r ⌝ }
 {
     clear::clear(profile, table, kept, passes)
+}
+
+// The feeder list of a table: for each row twelve entries, the numbers of the rows of dust that transmits into it, rising, then 65,535. Answers how many
+// rows there are.
+#[no_mangle]
+pub extern "C" fn redstone_feeders(profile: &[u8], table: &[u8], list: &mut [u16]) -> u32
+    ensures { λ r. ⌜ Feeds (now (profile .entry)) (now (table .entry)) (now (list .entry)) (now (list .exit)) r ⌝ }
+{
+    feeders::feeders(profile, table, list)
+}
+
+// The table with one row replaced by another at its position, and the feeder list beside it: the entries of that row and of dust at most two cells away on
+// every axis written afresh, all others left as they are. Answers how many rows there are.
+#[no_mangle]
+pub extern "C" fn redstone_replace(
+    profile: &[u8],
+    table: &mut [u8],
+    row: u16,
+    new: &[u8],
+    list: &mut [u16],
+) -> u32
+    ensures { λ r. ⌜ Replaces (now (profile .entry)) (now (table .entry)) (now (table .exit)) row (now (new .entry)) (now (list .entry)) (now (list .exit)) r ⌝ }
+{
+    replace::replace(profile, table, row, new, list)
 }

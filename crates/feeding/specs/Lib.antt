@@ -1,0 +1,2 @@
+pub mod Feeders
+pub mod Replaced
