@@ -5,7 +5,7 @@ use std::fmt::Display;
 use std::ops::RangeInclusive;
 use std::str::FromStr;
 
-use redstone::FARTHEST_OFFSET;
+use redstone::{FARTHEST, FARTHEST_OFFSET};
 use redstone_text::Word;
 
 use crate::command::{BY, Choice, Command, Failure, OUT, PROFILE, SWITCH, TICKS};
@@ -37,7 +37,7 @@ impl Arguments {
         };
         while let Some(word) = words.next() {
             let text = word.to_string_lossy().into_owned();
-            if only_operands || !text.starts_with('-') || text == "-" {
+            if only_operands || !is_option_name(&text) {
                 arguments.operands.push(word);
                 continue;
             }
@@ -114,6 +114,35 @@ impl Arguments {
         Ok(&self.operands)
     }
 
+    /// The file that is named, and the position after it.
+    pub(crate) fn file_and_position(&self) -> Result<(&OsStr, Position), Failure> {
+        match &self.operands[..] {
+            [file, position] => {
+                let (first, second) = (file.to_string_lossy(), position.to_string_lossy());
+                let position = read_position(&second).map_err(|failure| match read_position(&first) {
+                    Ok(_) => Failure::sentence(format!(
+                        "the file comes first, and then the position: give {second} {first}"
+                    )),
+                    Err(_) => failure,
+                })?;
+                Ok((file, position))
+            }
+            [] => Err(Failure::sentence(
+                "no hall is named: give a file, or - for standard input, and then a position x,y,z",
+            )),
+            [one] => Err(Failure::sentence(match read_position(&one.to_string_lossy()) {
+                Ok(_) => "no hall is named: give a file, or - for standard input, before the position",
+                Err(_) => "no position is given: give one as x,y,z after the file",
+            })),
+            [_, _, third, ..] => {
+                let third = third.to_string_lossy();
+                Err(Failure::sentence(format!(
+                    "{third} is one word too many: give one file, and one position x,y,z without blanks"
+                )))
+            }
+        }
+    }
+
     /// The two files that are named.
     pub(crate) fn two_files(&self) -> Result<[&OsStr; 2], Failure> {
         if self.operands.is_empty() {
@@ -150,7 +179,12 @@ impl Arguments {
 
     /// The hall that the one operand names, with the switches of `--switch`.
     pub(crate) fn hall(&self) -> Result<Hall, Failure> {
-        let mut hall = input::read(self.file()?, self.profile()?.as_deref())?;
+        self.hall_in(self.file()?)
+    }
+
+    /// The hall that a file holds, with the switches of `--switch`.
+    pub(crate) fn hall_in(&self, file: &OsStr) -> Result<Hall, Failure> {
+        let mut hall = input::read(file, self.profile()?.as_deref())?;
         for value in self.options(&SWITCH) {
             let text = value.to_string_lossy();
             hall.add_switch(&text)
@@ -166,8 +200,20 @@ impl Arguments {
     }
 }
 
+/// Whether a word is to be an option's name: `-` alone is standard input, and before a digit it is that of a number.
+fn is_option_name(text: &str) -> bool {
+    let after = text.strip_prefix('-').and_then(|after| after.chars().next());
+    after.is_some_and(|first| !first.is_ascii_digit())
+}
+
+/// A position where a block may be.
+fn read_position(text: &str) -> Result<Position, Failure> {
+    let position = Word { line: 1, column: 1, text }.numbers(-FARTHEST..=FARTHEST, "a position x,y,z");
+    position.map_err(|error| Failure::sentence(format!("position {text}: {}", error.message())))
+}
+
 /// What is asked about a word of three numbers before which `--by` was forgotten.
-pub(crate) fn meant_by(text: &str) -> Option<String> {
+fn meant_by(text: &str) -> Option<String> {
     let word = Word { line: 1, column: 1, text };
     word.position().is_ok().then(|| format!("did you mean {} {text}?", BY.name))
 }

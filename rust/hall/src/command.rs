@@ -8,7 +8,7 @@ use redstone::Refusal;
 use redstone_text::nearest;
 
 use crate::Refused;
-use crate::arguments::{Arguments, meant_by};
+use crate::arguments::Arguments;
 use crate::commands::COMMANDS;
 use crate::output::unwritten;
 
@@ -143,9 +143,6 @@ impl Command {
             return Ok(choice);
         }
         let start = format!("{name} is not an option of `hall {}`", self.name);
-        if let Some(meant) = meant_by(name).filter(|_| self.takes(&BY)) {
-            return Err(Failure::sentence(format!("{start}: {meant}")));
-        }
         Err(Failure::sentence(match nearest(name, self.options.iter().map(|choice| choice.name)) {
             Some((nearest, true)) => format!("{start}: did you mean {nearest}?"),
             Some((_, false)) => format!("{start}: see `hall {} --help`", self.name),

@@ -3,15 +3,17 @@
  *
  * Buffers. Each is a pointer and then its length in entries, and may have any length and content. Buffers that are only
  * read may be one or overlap, as redstone_merge's two tables; a buffer that is written may overlap no other. A pointer
- * must not be null, not even with length 0. Entries are bytes, but for the rows of redstone_supports and the passes of
- * redstone_clear, which have 16 bits: those buffers stand at even addresses.
+ * must not be null, not even with length 0. Entries are bytes, but for the rows of redstone_supports, the passes of
+ * redstone_clear and the list of redstone_feeders and redstone_replace, which have 16 bits: those buffers stand at even
+ * addresses.
  *
  * Threads and stack. There are no globals and nothing is allocated or kept: any thread may call at any time, over
  * buffers that no other thread writes meanwhile. 48 KiB of free stack are enough for every call.
  *
  * Answer. Where the call is refused, 65536 times the refusal's number plus the row at fault, and no byte of any buffer
  * is written. Else the rounds in which the table settled, 1 to 17, and all of signal, weak and strong are written;
- * redstone_redraw, redstone_supports, redstone_merge and redstone_clear, which settle nothing, say below what they answer.
+ * redstone_redraw, redstone_supports, redstone_merge, redstone_clear, redstone_feeders and redstone_replace, which settle
+ * nothing, say below what they answer.
  *
  * Table. At most 1024 rows of 32 bytes, ordered by x, then y, then z, all positions different. Numbers have their low
  * byte first. y is up.
@@ -70,22 +72,37 @@
  * profile, torches give to a block. Weak power is what dust, and strongly powered neighbours, give to a block. Lamps,
  * bulbs, torches, repeaters and comparators answer to both; strong power alone drives dust.
  *
+ * Feeders. 12 entries of 16 bits a row: the numbers of the rows of all dust that transmits into it, rising, and then 65535.
+ * A row that is no dust has 65535 in all of them. Dust transmits into dust at its four sides, at the same height, a cell
+ * higher or a cell lower, and the heights tell by which rule:
+ *
+ *   same height   Horizontal, by the arms that both have to each other
+ *   from below    Rise, by the arm of the lower dust to the block on which the higher one lies: Up, or Side where that is
+ *                 a top slab or top stairs
+ *   from above    FallThroughConductor, by the same arm, where strong power of that block drives dust
+ *
+ * Whether it has power does not matter. Levers, torches and other blocks that power dust are no entries.
+ *
  * Refusals, tested in the order 1 to 5, 10 on the rows, 6, 10 on the device column or the state, 7, 8, 9, as far as the
  * call has the input. Each is tested over all rows before the next, in 6 the length before a value. The row is the first
  * at fault for 4, 5, 10 and a value in 6, and else 0. Every call gives 10 on the rows, settle on the device column, too,
  * and tick and switch on the state. redstone_merge tests the first table for 2 to 5 and 10, then the second, as it is
  * given and with its own rows counted, and then 7, 11, 12 and 3, of both together. Where it gives 2 to 5 or 10, the fault
  * is in the first table if the same call with second_length 0 gives it, too. Else it is in the second; or, of 3 where
- * neither table has more than 1024 rows, in both together.
+ * neither table has more than 1024 rows, in both together. redstone_replace tests the table for 1 to 5 and 10, then the new
+ * row for 4, 5 and 10, with the number that it is given as the row, and then 7. Where it gives 4, 5 or 10, the fault is in
+ * the table if redstone_feeders with list_length 0, which then writes nothing, gives it of that table, too. Else it is in
+ * the new row.
  *
  *   1  profile     not 13 bytes nor 14, Air not 0, or a byte above 31, the torch's above 63
  *   2  ragged      table length not a multiple of 32
  *   3  crowded     more than 1024 rows, in a table or in what two are merged to
- *   4  bad row     a field outside the layout, or kind 13 with a profile of 13 bytes
- *   5  misplaced   a position not after the row before
+ *   4  bad row     a field outside the layout, or kind 13 with a profile of 13 bytes; replace's new row not 32 bytes
+ *   5  misplaced   a position not after the row before; replace's new row at another position than the row that it is to
+ *                  replace, or no such row
  *   6  bad state   device column or state of wrong length or value, but for 10's
  *   7  column      an output column, or fresh's state, not one entry per row; merge's output not 32768 bytes; clear's
- *                  kept rows not as many bytes as the table
+ *                  kept rows not as many bytes as the table; a list of feeders not 12 entries per row
  *   8  unsettled   limit below the rounds needed (settle alone; 17 is always enough)
  *   9  clock end   tick plus ticks above 4294967295 (tick alone)
  *   10 overdriven  a comparator with a power level above 15 given in its row, or with a device byte above 15 in the
@@ -117,6 +134,7 @@
 #define REDSTONE_FARTHEST 1000000
 #define REDSTONE_FARTHEST_OFFSET 2000000
 #define REDSTONE_MERGE_BYTES 32768
+#define REDSTONE_MOST_FEEDERS 12
 
 /* Byte 12 of a row. */
 #define REDSTONE_KIND_SOLID 1
@@ -158,6 +176,9 @@
 /* The value of the torch's byte of a profile, by which a lit torch charges the block above it:
  * profile[REDSTONE_KIND_REDSTONE_TORCH] |= REDSTONE_TORCH_CHARGES_ABOVE */
 #define REDSTONE_TORCH_CHARGES_ABOVE 32
+
+/* The entry of a list of feeders that is no row's. */
+#define REDSTONE_NO_ROW 65535
 
 /* The bench's own profile, to initialise an array: Solid and RedstoneLamp 31, Transparent and RedstoneBlock 1. */
 #define REDSTONE_BENCH_PROFILE {0, 31, 1, 0, 0, 0, 0, 0, 0, 0, 31, 1, 0}
@@ -253,6 +274,26 @@ uint32_t redstone_clear(
     const uint8_t *table, size_t table_length,
     uint8_t *kept, size_t kept_length,
     uint16_t *passes, size_t passes_length);
+
+/* Writes the feeders of every row to `list`, which has REDSTONE_MOST_FEEDERS entries a row of the table. They are by the
+ * arms that the table has: after redstone_redraw they may be others, after redstone_switch they are the same. Answers how
+ * many rows there are. */
+uint32_t redstone_feeders(
+    const uint8_t *profile, size_t profile_length,
+    const uint8_t *table, size_t table_length,
+    uint16_t *list, size_t list_length);
+
+/* Writes the 32 bytes of `new_row` over the row of number `row`, from 0, which stands at the same position. In the list of
+ * feeders it writes afresh the entries of that row, and those of dust at most two cells away from it on every axis, as
+ * they are in the table after it. All other entries stay as they were. If the list was the one that redstone_feeders
+ * writes of the table before, under this profile, it is now the one that it writes of the table after. What the entries of
+ * the list are is not tested. Answers how many rows there are. */
+uint32_t redstone_replace(
+    const uint8_t *profile, size_t profile_length,
+    uint8_t *table, size_t table_length,
+    uint16_t row,
+    const uint8_t *new_row, size_t new_row_length,
+    uint16_t *list, size_t list_length);
 
 #ifdef __cplusplus
 }

@@ -27,8 +27,9 @@ pub struct Refusal {
     /// The number of the refusal, from 1 on.
     pub number: u32,
     /// The first row at fault. Of a merge it is in the table that [`Fault::table`] names; in a state or device column it
-    /// has the number of the table's row. 0 where the refusal is not about a row, where a state or device column is of a
-    /// wrong length, and for 11 and 12, whose rows the fault has.
+    /// has the number of the table's row; of a new row it is the number that [`replace`](crate::replace) is given. 0 where
+    /// the refusal is not about a row, where a state or device column is of a wrong length, and for 11 and 12, whose rows
+    /// the fault has.
     pub row: usize,
     /// What exactly is wrong.
     pub fault: Fault,
@@ -37,7 +38,8 @@ pub struct Refusal {
 /// The refusals. A call tests for them in the order of their numbers, but for [`Overdriven`](Self::Overdriven).
 ///
 /// [`merge`](crate::merge) tests the first table for 2 to 5 and 10, then the second one, and then 7, 11, 12 and, of both
-/// tables together, 3.
+/// tables together, 3. [`replace`](crate::replace) tests the table for 1 to 5 and 10, then the new row for 4, 5 and 10, and
+/// then 7.
 #[derive(Clone, Copy, Debug, Eq, Hash, PartialEq)]
 #[non_exhaustive]
 pub enum RefusalKind {
@@ -49,15 +51,17 @@ pub enum RefusalKind {
     Crowded,
     /// 4: a row has a field outside the layout, or is a bulb and the profile has 13 bytes, not the 14 that
     /// [`BENCH_PROFILE_WITH_BULB`](crate::BENCH_PROFILE_WITH_BULB) has. [`merge`](crate::merge), which has no profile,
-    /// takes bulbs.
+    /// takes bulbs. Or the new row that [`replace`](crate::replace) is given has not 32 bytes.
     BadRow,
-    /// 5: a row's position is not after that of the row before.
+    /// 5: a row's position is not after that of the row before; or the new row that [`replace`](crate::replace) is given
+    /// stands at another position than the row that it is to replace, or there is no such row.
     Misplaced,
     /// 6: the device column or the state has a wrong length or value.
     BadState,
     /// 7: an output column, or the state lent to [`fresh`](crate::fresh), has not one entry for each row; what is lent to
-    /// [`merge`](crate::merge) has not [`MERGE_BYTES`](crate::MERGE_BYTES); or the room that is lent to
-    /// [`clear`](crate::clear) is not as long as the table.
+    /// [`merge`](crate::merge) has not [`MERGE_BYTES`](crate::MERGE_BYTES); the room that is lent to
+    /// [`clear`](crate::clear) is not as long as the table; or a list of feeders has not
+    /// [`MOST_FEEDERS`](crate::MOST_FEEDERS) entries for each row.
     Column,
     /// 8: the limit is below the rounds needed.
     Unsettled,

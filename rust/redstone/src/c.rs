@@ -92,4 +92,8 @@ calls! {
         read first: u8, read second: u8, pass dx: i32, pass dy: i32, pass dz: i32, write out: u8,
     );
     fn redstone_clear(read profile: u8, read table: u8, write kept: u8, write passes: u16);
+    fn redstone_feeders(read profile: u8, read table: u8, write list: u16);
+    fn redstone_replace(
+        read profile: u8, write table: u8, pass row: u16, read new_row: u8, write list: u16,
+    );
 }

@@ -3,10 +3,11 @@
 
 use crate::device::{Device, check_device_level, read_device_byte};
 use crate::merge::{clashes, shared};
+use crate::row::position_of;
 use crate::table::rows_under;
 use crate::{
-    BadField, Buffer, FARTHEST, FARTHEST_OFFSET, Fault, Kind, MERGE_BYTES, MOST_ROWS, PROFILE_BYTES,
-    PROFILE_BYTES_WITH_BULB, ROW_BYTES, Row, STATE_BYTES, TORCH_CHARGES_ABOVE, WhichTable,
+    BadField, Buffer, FARTHEST, FARTHEST_OFFSET, Fault, Kind, MERGE_BYTES, MOST_FEEDERS, MOST_ROWS,
+    PROFILE_BYTES, PROFILE_BYTES_WITH_BULB, ROW_BYTES, Row, STATE_BYTES, TORCH_CHARGES_ABOVE, WhichTable,
 };
 
 /// The sum of the values that the byte of every kind may have.
@@ -88,6 +89,24 @@ pub(crate) fn clear(profile: &[u8], table: &[u8], lent: Lengths) -> Result<(), F
     check_lengths(&input(profile, table)?, lent)
 }
 
+/// What [`feeders`](crate::feeders) refuses.
+pub(crate) fn feeders(profile: &[u8], table: &[u8], list: &[u16]) -> Result<(), Fault> {
+    check_lengths(&input(profile, table)?, &[(Buffer::Feeders, list.len())])
+}
+
+/// What [`replace`](crate::replace) refuses.
+pub(crate) fn replace(
+    profile: &[u8],
+    table: &[u8],
+    row: u16,
+    new_row: &[u8],
+    list: &[u16],
+) -> Result<(), Fault> {
+    let rows = input(profile, table)?;
+    check_new_row(profile.len(), &rows, row.into(), new_row)?;
+    check_lengths(&rows, &[(Buffer::Feeders, list.len())])
+}
+
 /// 1 to 5, and 10 on the rows. The rows are those of the accepted table.
 fn input(profile: &[u8], table: &[u8]) -> Result<Vec<Row>, Fault> {
     check_profile(profile)?;
@@ -155,6 +174,22 @@ fn check_levels(rows: &[Row]) -> Result<(), Fault> {
     Ok(())
 }
 
+/// 4, 5 and 10, of what is to replace the row of a number, under a profile of so many bytes.
+fn check_new_row(profile_bytes: usize, rows: &[Row], row: usize, bytes: &[u8]) -> Result<(), Fault> {
+    let too_few_or_many = |_| Fault::NewRowLength { row, length: bytes.len() };
+    let bytes: &[u8; ROW_BYTES] = bytes.try_into().map_err(too_few_or_many)?;
+    let position = position_of(bytes);
+    let new = Row::read(bytes, profile_bytes).map_err(|field| Fault::BadNewRow { row, position, field })?;
+    match rows.get(row).map(Row::position) {
+        None => {
+            let found = rows.iter().position(|row| row.position() == position);
+            Err(Fault::NoSuchRow { row, position, found, rows: rows.len() })
+        }
+        Some(expected) if position != expected => Err(Fault::OtherPosition { row, position, expected }),
+        Some(_) => new.check_level().map_err(|field| Fault::OverdrivenNewRow { row, position, field }),
+    }
+}
+
 /// 6 and 10, of a device column.
 fn check_devices(rows: &[Row], devices: &[u8]) -> Result<(), Fault> {
     check_values(Buffer::Devices, rows, devices, |row, &[byte]| read_device_byte(row.kind(), byte).map(drop))
@@ -197,6 +232,7 @@ fn check_lengths(rows: &[Row], buffers: Lengths) -> Result<(), Fault> {
         let expected = match buffer {
             Buffer::State => STATE_BYTES * rows.len(),
             Buffer::Kept => ROW_BYTES * rows.len(),
+            Buffer::Feeders => MOST_FEEDERS * rows.len(),
             _ => rows.len(),
         };
         if length != expected {

@@ -1,18 +1,18 @@
 //! A table with its profile, state, tick number and columns, kept together.
 
 use crate::{
-    Cleared, Columns, Device, ROW_BYTES, Refusal, Rounds, Row, STATE_BYTES, cleared, find, fresh, redraw,
-    settle, supports, switch, table, tick,
+    Cleared, Columns, Device, Feeder, Feeders, ROW_BYTES, Refusal, Rounds, Row, STATE_BYTES, cleared, find,
+    fresh, redraw, settle, supports, switch, table, tick,
 };
 
 /// Why the rows of a circuit can be read: no call has refused them.
-const ACCEPTED: &str = "a table and a state that the calls accepted are within the layout";
+pub(crate) const ACCEPTED: &str = "a table and a state that the calls accepted are within the layout";
 
 /// A table with its profile, its state, the number of the tick that it stands at, and what it settled to.
 ///
 /// Everything in it comes from the calls: it is made by [`fresh`], and its methods are [`tick`], [`switch`],
-/// [`settle`], [`redraw`], [`supports`] and [`cleared`] over its own buffers. After each the figures are there by row and
-/// by position. A call that is refused changes nothing.
+/// [`settle`], [`redraw`], [`supports`], [`cleared`] and [`feeders`](crate::feeders) over its own buffers. After each the
+/// figures are there by row and by position. A call that is refused changes nothing.
 ///
 /// A lever on a lamp:
 ///
@@ -288,6 +288,57 @@ impl Circuit {
     /// None, as for [`fresh`](Self::fresh).
     pub fn cleared(&self) -> Result<Cleared, Refusal> {
         cleared(&self.profile, &self.table)
+    }
+
+    /// The dust that transmits into the dust at x, y, z, each with the rule by which it does, in the order of the rows;
+    /// `None` where no dust is. Whether it has power does not matter; and levers, torches and other blocks that power the
+    /// dust are not among them. The list of all rows is built for it: [`feeders`](Self::feeders) gives that.
+    ///
+    /// A lever, and a line of dust that climbs a block:
+    ///
+    /// ```
+    /// use redstone::{BENCH_PROFILE, Circuit, DustTransfer, Kind, Row};
+    ///
+    /// let circuit = Circuit::new(&BENCH_PROFILE, [
+    ///     Row::new(Kind::Lever, [0, 0, 0]),
+    ///     Row::new(Kind::RedstoneWire, [1, 0, 0]),
+    ///     Row::new(Kind::RedstoneWire, [2, 0, 0]),
+    ///     Row::new(Kind::Solid, [3, 0, 0]),
+    ///     Row::new(Kind::RedstoneWire, [3, 1, 0]),
+    /// ])?;
+    /// let fed: Vec<_> = circuit.feeders_of([2, 0, 0])?.into_iter().flatten().collect();
+    /// assert_eq!((fed[0].position, fed[0].transfer), ([1, 0, 0], DustTransfer::Horizontal));
+    /// assert_eq!((fed[1].position, fed[1].transfer), ([3, 1, 0], DustTransfer::FallThroughConductor));
+    /// assert_eq!(circuit.feeders_of([3, 0, 0])?, None);
+    /// # Ok::<(), redstone::Refusal>(())
+    /// ```
+    ///
+    /// # Errors
+    ///
+    /// None, as for [`fresh`](Self::fresh).
+    pub fn feeders_of(&self, position: [i32; 3]) -> Result<Option<Vec<Feeder>>, Refusal> {
+        Ok(self.feeders()?.of(position))
+    }
+
+    /// The list of what dust transmits into each dust of the table, to ask of many of them. It has a copy of the profile and
+    /// of the table as it is: a [`switch`](Self::switch) leaves it right, and after a [`redraw`](Self::redraw) it is that of
+    /// the table before.
+    ///
+    /// ```
+    /// use redstone::{BENCH_PROFILE, Circuit, Kind, Row};
+    ///
+    /// let line = [0, 1, 2].map(|x| Row::new(Kind::RedstoneWire, [x, 0, 0]));
+    /// let feeders = Circuit::new(&BENCH_PROFILE, line)?.feeders()?;
+    /// let fed_by = line.map(|dust| feeders.of(dust.position()).map(|fed| fed.len()));
+    /// assert_eq!(fed_by, [Some(1), Some(2), Some(1)]);
+    /// # Ok::<(), redstone::Refusal>(())
+    /// ```
+    ///
+    /// # Errors
+    ///
+    /// None, as for [`fresh`](Self::fresh).
+    pub fn feeders(&self) -> Result<Feeders, Refusal> {
+        Feeders::from_table(&self.profile, &self.table[..])
     }
 
     /// The number of rows.

@@ -60,6 +60,22 @@ pub enum Fault {
         /// The first such field.
         field: BadField,
     },
+    /// 4: the row that is to replace another has a wrong length.
+    NewRowLength {
+        /// The number of the row that it is to replace.
+        row: usize,
+        /// Its bytes.
+        length: usize,
+    },
+    /// 4: the row that is to replace another has a field outside the layout, or is a bulb under a profile of 13 bytes.
+    BadNewRow {
+        /// The number of the row that it is to replace.
+        row: usize,
+        /// The position that its bytes hold.
+        position: [i32; 3],
+        /// The first such field.
+        field: BadField,
+    },
     /// 5: a row's position is not after that of the row before.
     Misplaced {
         /// Which table the row is of.
@@ -70,6 +86,26 @@ pub enum Fault {
         position: [i32; 3],
         /// The position of the row before.
         before: [i32; 3],
+    },
+    /// 5: there is no row of the number that is to be replaced.
+    NoSuchRow {
+        /// The number.
+        row: usize,
+        /// The position of the row that is to replace it.
+        position: [i32; 3],
+        /// The number of the row at that position, if there is one.
+        found: Option<usize>,
+        /// The rows that there are.
+        rows: usize,
+    },
+    /// 5: the row that is to replace another stands at another position.
+    OtherPosition {
+        /// The number of the row that it is to replace.
+        row: usize,
+        /// Where it stands.
+        position: [i32; 3],
+        /// Where the row stands that it is to replace.
+        expected: [i32; 3],
     },
     /// 6: the device column or the state has a wrong length.
     StateLength {
@@ -119,6 +155,15 @@ pub enum Fault {
         /// Which table the row is of.
         table: WhichTable,
         /// The row's number.
+        row: usize,
+        /// Its position.
+        position: [i32; 3],
+        /// The power level.
+        field: BadField,
+    },
+    /// 10: the row that is to replace another is a comparator's and has a power level above 15.
+    OverdrivenNewRow {
+        /// The number of the row that it is to replace.
         row: usize,
         /// Its position.
         position: [i32; 3],
@@ -202,6 +247,8 @@ pub enum Buffer {
     Kept,
     /// The column of passes.
     Passes,
+    /// The list of feeders.
+    Feeders,
 }
 
 impl Fault {
@@ -212,13 +259,13 @@ impl Fault {
             Self::ProfileLength { .. } | Self::ProfileByte { .. } => 1,
             Self::Ragged { .. } => 2,
             Self::Crowded { .. } | Self::CrowdedTogether { .. } => 3,
-            Self::BadRow { .. } => 4,
-            Self::Misplaced { .. } => 5,
+            Self::BadRow { .. } | Self::NewRowLength { .. } | Self::BadNewRow { .. } => 4,
+            Self::Misplaced { .. } | Self::NoSuchRow { .. } | Self::OtherPosition { .. } => 5,
             Self::StateLength { .. } | Self::BadState { .. } => 6,
             Self::Column { .. } => 7,
             Self::Unsettled { .. } => 8,
             Self::ClockEnd { .. } => 9,
-            Self::OverdrivenRow { .. } | Self::OverdrivenState { .. } => 10,
+            Self::OverdrivenRow { .. } | Self::OverdrivenNewRow { .. } | Self::OverdrivenState { .. } => 10,
             Self::FarOffset { .. } | Self::OffGround { .. } => 11,
             Self::Clash(_) => 12,
             Self::Unexplained { number, .. } => number,
@@ -230,9 +277,14 @@ impl Fault {
     pub fn row(&self) -> usize {
         match *self {
             Self::BadRow { row, .. }
+            | Self::NewRowLength { row, .. }
+            | Self::BadNewRow { row, .. }
             | Self::Misplaced { row, .. }
+            | Self::NoSuchRow { row, .. }
+            | Self::OtherPosition { row, .. }
             | Self::BadState { row, .. }
             | Self::OverdrivenRow { row, .. }
+            | Self::OverdrivenNewRow { row, .. }
             | Self::OverdrivenState { row, .. }
             | Self::Unexplained { row, .. } => row,
             _ => 0,
@@ -300,6 +352,24 @@ impl Display for Fault {
             Self::BadRow { table, row, position, field }
             | Self::OverdrivenRow { table, row, position, field } => {
                 write!(f, "row {row}{} at {}: {field}", Of(table), At(position))
+            }
+            Self::NewRowLength { row, length } => {
+                write!(f, "the new row {row} has length {length}; it must be {ROW_BYTES}")
+            }
+            Self::BadNewRow { row, position, field } | Self::OverdrivenNewRow { row, position, field } => {
+                write!(f, "the new row {row} at {}: {field}", At(position))
+            }
+            Self::NoSuchRow { row, position, found: None, rows } => {
+                write!(f, "no block is at {} for the new row {row} to replace; ", At(position))?;
+                write!(f, "the table has {}", Numbered(rows))
+            }
+            Self::NoSuchRow { row, position, found: Some(found), rows } => {
+                write!(f, "no row {row} is there for the new one at {} to replace; ", At(position))?;
+                write!(f, "the table has {}, and at that position is row {found}", Numbered(rows))
+            }
+            Self::OtherPosition { row, position, expected } => {
+                let (at, expected) = (At(position), At(expected));
+                write!(f, "the new row {row} is at {at}; it must be at {expected}, where row {row} is")
             }
             Self::Misplaced { table, row, position, before } if position == before => {
                 let (of, at, previous) = (Of(table), At(position), row.saturating_sub(1));
@@ -372,6 +442,7 @@ impl Display for Buffer {
             Self::Merged => "room for the merged table",
             Self::Kept => "room for the kept rows",
             Self::Passes => "column of passes",
+            Self::Feeders => "list of feeders",
         })
     }
 }
@@ -394,6 +465,19 @@ impl Display for Of {
         match self.0 {
             WhichTable::Only => Ok(()),
             table => write!(f, " of {table}"),
+        }
+    }
+}
+
+/// How many rows there are in a message, and their numbers.
+struct Numbered(usize);
+
+impl Display for Numbered {
+    fn fmt(&self, f: &mut Formatter<'_>) -> fmt::Result {
+        match self.0 {
+            0 => write!(f, "no rows"),
+            1 => write!(f, "1 row, numbered 0"),
+            rows => write!(f, "{rows} rows, numbered from 0"),
         }
     }
 }

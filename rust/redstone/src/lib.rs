@@ -51,12 +51,13 @@
 //!
 //! # Calls
 //!
-//! There are eight calls over plain slices, which an editor with buffers of its own can use as they are. [`Circuit`] is
-//! made of seven: [`fresh`] once for a table, then [`tick`] and [`switch`] as the player waits and throws levers;
+//! There are ten calls over plain slices, which an editor with buffers of its own can use as they are. [`Circuit`] is
+//! made of eight: [`fresh`] once for a table, then [`tick`] and [`switch`] as the player waits and throws levers;
 //! [`settle`] asks what a table settles to with other devices; [`redraw`] draws the arms of dust; [`supports`] lists
-//! what nothing holds up, and [`clear`] takes it away, with all that it held up. The eighth, [`merge`], puts two tables
-//! in one. [`cleared`] and [`merged`] are the same as the last two without buffers to lend. The repository's README has
-//! their formats byte by byte:
+//! what nothing holds up, and [`clear`] takes it away, with all that it held up; [`feeders`] lists what dust feeds which.
+//! The ninth, [`replace`], puts a block in the place of another and updates that list, which [`Feeders`] does with buffers
+//! of its own. The tenth, [`merge`], puts two tables in one. [`cleared`] and [`merged`] are the same as
+//! [`clear`] and [`merge`] without buffers to lend. The repository's README has their formats byte by byte:
 //!
 //! - The profile has [`PROFILE_BYTES`], one for each kind of block from Air on, such as [`BENCH_PROFILE`]; or
 //!   [`PROFILE_BYTES_WITH_BULB`], such as [`BENCH_PROFILE_WITH_BULB`], and only then may the table have bulbs.
@@ -66,6 +67,8 @@
 //!   level, from 0 to 15, any other is 0.
 //! - A state has [`STATE_BYTES`] for each row, which [`Device::read`] reads. [`fresh`] writes it, and [`tick`] moves it
 //!   on.
+//! - A list of feeders has [`MOST_FEEDERS`] entries for each row: the numbers of the rows of dust that transmits into it,
+//!   and then [`NO_ROW`].
 //!
 //! ```
 //! use redstone::{BENCH_PROFILE, Columns, Kind, ROW_BYTES, Row, STATE_BYTES};
@@ -105,6 +108,7 @@ mod clear;
 mod code;
 mod device;
 mod fault;
+mod feeders;
 mod field;
 mod merge;
 mod row;
@@ -119,6 +123,7 @@ pub use clear::Cleared;
 pub use code::{Arm, Facing, Kind, Shape, UnknownCode, UnknownName};
 pub use device::Device;
 pub use fault::{Buffer, Fault, WhichTable};
+pub use feeders::{DustTransfer, Feeder, Feeders};
 pub use field::BadField;
 pub use merge::{Clash, clashes};
 pub use row::{Row, RowError};
@@ -145,6 +150,10 @@ pub const FARTHEST: i32 = 1_000_000;
 pub const FARTHEST_OFFSET: i32 = 2_000_000;
 /// Bytes of the room that is lent to [`merge`]: those of the most rows.
 pub const MERGE_BYTES: usize = MOST_ROWS * ROW_BYTES;
+/// The most dust that transmits into one, and the entries that a list of feeders has for a row.
+pub const MOST_FEEDERS: usize = 12;
+/// The entry of a list of feeders that is no row's.
+pub const NO_ROW: u16 = u16::MAX;
 
 /// The largest level: every signal, every weak and every strong power that a call writes is from 0 to this.
 ///
@@ -481,4 +490,68 @@ pub fn cleared(profile: &[u8], table: &[u8]) -> Result<Cleared, Refusal> {
     let count = clear(profile, table, &mut kept, &mut passes)?;
     kept.truncate(ROW_BYTES * count);
     Ok(Cleared { kept, passes })
+}
+
+/// Writes the numbers of the rows of all dust that transmits into each row of the table to `list`, which has
+/// [`MOST_FEEDERS`] entries for each: the numbers, rising, and then [`NO_ROW`]. A row that is no dust has [`NO_ROW`] alone.
+/// Answers how many rows there are. [`DustTransfer`] has the rules by which dust transmits; whether it has power does not
+/// matter. [`Feeders`] lends it the list.
+///
+/// Dust transmits by the arms that are stored, and where none is by what stands around it. So after a [`redraw`] the list
+/// may be another, and after a [`switch`] it is the same.
+///
+/// ```
+/// use redstone::{BENCH_PROFILE, Kind, MOST_FEEDERS, NO_ROW, Row, table};
+///
+/// let line = table([0, 1, 2].map(|x| Row::new(Kind::RedstoneWire, [x, 0, 0])));
+/// let mut list = [0; 3 * MOST_FEEDERS];
+/// redstone::feeders(&BENCH_PROFILE, &line, &mut list)?;
+///
+/// let of_row = |row: usize| &list[MOST_FEEDERS * row..][..3];
+/// assert_eq!([of_row(0), of_row(1)], [[1, NO_ROW, NO_ROW], [0, 2, NO_ROW]]);
+/// # Ok::<(), redstone::Refusal>(())
+/// ```
+///
+/// # Errors
+///
+/// Refusals 1 to 5, 10 on a row, and 7 on `list`.
+pub fn feeders(profile: &[u8], table: &[u8], list: &mut [u16]) -> Result<usize, Refusal> {
+    let answer = c::redstone_feeders(profile, table, list);
+    answered(answer, || checks::feeders(profile, table, list)).map(|count| count as usize)
+}
+
+/// Writes the 32 bytes of `new_row` over the row of number `row`, which stands at the same position. In the list of feeders
+/// it writes afresh the entries of that row, and those of dust at most two cells away from it on every axis, as they are in
+/// the table after it. All other entries stay as they were, and none is tested. Answers how many rows there are.
+/// [`Feeders::replace`] finds the row by its position, and lends it table and list.
+///
+/// If the list was the one that [`feeders`] writes of the table before, under this profile, it is now the one that it
+/// writes of the table after.
+///
+/// ```
+/// use redstone::{BENCH_PROFILE, Kind, MOST_FEEDERS, NO_ROW, Row, table};
+///
+/// let mut line = table([0, 1, 2].map(|x| Row::new(Kind::RedstoneWire, [x, 0, 0])));
+/// let mut list = [0; 3 * MOST_FEEDERS];
+/// redstone::feeders(&BENCH_PROFILE, &line, &mut list)?;
+///
+/// let block = Row::new(Kind::Solid, [1, 0, 0]);
+/// redstone::replace(&BENCH_PROFILE, &mut line, 1, &block.bytes(), &mut list)?;
+/// assert_eq!(list, [NO_ROW; 3 * MOST_FEEDERS]);
+/// # Ok::<(), redstone::Refusal>(())
+/// ```
+///
+/// # Errors
+///
+/// Refusals 1 to 5, and 10 on a row of the table. Then, with `row` as the row, 4 where the new row is bad or has not 32
+/// bytes, 5 where it stands at another position or there is no such row, and 10 where it is overdriven. Then 7 on `list`.
+pub fn replace(
+    profile: &[u8],
+    table: &mut [u8],
+    row: u16,
+    new_row: &[u8],
+    list: &mut [u16],
+) -> Result<usize, Refusal> {
+    let answer = c::redstone_replace(profile, table, row, new_row, list);
+    answered(answer, || checks::replace(profile, table, row, new_row, list)).map(|count| count as usize)
 }

@@ -5,6 +5,7 @@ mod circuit;
 mod clear;
 mod either_order;
 mod faults;
+mod feeders;
 mod header;
 mod merge;
 mod programs;
@@ -44,4 +45,24 @@ impl Lent {
     fn untouched(&self) -> bool {
         [&self.signal, &self.weak, &self.strong].into_iter().flatten().all(|byte| *byte == UNTOUCHED)
     }
+}
+
+/// Numbers that look as if they were drawn.
+struct Draws(u64);
+
+impl Draws {
+    /// A number below a limit.
+    fn below(&mut self, limit: u64) -> u64 {
+        self.0 = self.0.wrapping_mul(6_364_136_223_846_793_005).wrapping_add(1_442_695_040_888_963_407);
+        (self.0 >> 33) % limit
+    }
+
+    fn one_of<T: Copy>(&mut self, all: &[T]) -> T {
+        all[self.below(all.len() as u64) as usize]
+    }
+}
+
+/// The positions of a cube, in the table's order.
+fn cube(cells: i32) -> impl Iterator<Item = [i32; 3]> {
+    (0..cells).flat_map(move |x| (0..cells).flat_map(move |y| (0..cells).map(move |z| [x, y, z])))
 }

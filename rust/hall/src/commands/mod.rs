@@ -5,6 +5,7 @@ use crate::command::Command;
 mod check;
 mod clear;
 mod csv;
+mod feeders;
 mod levels;
 mod merge;
 mod new;
@@ -19,6 +20,7 @@ pub const COMMANDS: &[&Command] = &[
     &new::COMMAND,
     &run::COMMAND,
     &levels::COMMAND,
+    &feeders::COMMAND,
     &check::COMMAND,
     &report::COMMAND,
     &csv::COMMAND,

@@ -2,6 +2,7 @@
 
 mod check;
 mod clear;
+mod feeders;
 mod generated;
 mod hints;
 mod merge;

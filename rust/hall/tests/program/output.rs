@@ -10,18 +10,21 @@ fn shell(line: &str) -> (Option<i32>, String) {
     (done.status, done.err)
 }
 
-const COMMANDS: [&str; 7] = ["run", "levels", "check", "csv", "report", "unpack", "clear"];
+/// Lines for the shell that show a hall.
+fn shown() -> impl Iterator<Item = String> {
+    let commands = ["run", "levels", "check", "csv", "report", "unpack", "clear"];
+    let lines = commands.map(|command| format!("$hall {command} halls/vault-door.hall"));
+    lines.into_iter().chain(["$hall feeders halls/vault-door.hall 1,1,0".to_owned()])
+}
+
 /// Those that know `-o`.
 const WRITERS: [&str; 6] = ["report", "csv", "pack", "unpack", "clear", "stream"];
 
 #[test]
 fn a_full_disk() {
     let full = "hall: standard output could not be written: the disk is full.\n";
-    for command in COMMANDS {
-        assert_eq!(
-            shell(&format!("$hall {command} halls/vault-door.hall >/dev/full")),
-            (Some(2), full.into())
-        );
+    for line in shown() {
+        assert_eq!(shell(&format!("{line} >/dev/full")), (Some(2), full.into()), "{line}");
     }
     assert_eq!(shell("$hall --help >/dev/full"), (Some(2), full.into()));
     for command in ["pack", "stream"] {
@@ -41,11 +44,12 @@ fn a_full_disk() {
 
 #[test]
 fn a_closed_standard_output() {
-    for command in COMMANDS {
-        let (status, said) = shell(&format!("$hall {command} halls/vault-door.hall >&-"));
+    for line in shown() {
+        let (status, said) = shell(&format!("{line} >&-"));
         assert_eq!(
             (status, said.as_str()),
-            (Some(2), "hall: standard output cannot be written: it is closed.\n")
+            (Some(2), "hall: standard output cannot be written: it is closed.\n"),
+            "{line}"
         );
     }
 }

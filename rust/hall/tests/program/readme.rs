@@ -89,6 +89,19 @@ fn the_list_of_what_would_drop_is_that_of_the_lines_before_it() {
     assert!(lines.any(|line| line.contains(" lamp ") && line.ends_with(", given dark")), "{}", done.text());
 }
 
+/// The line that asks what feeds a dust, what it lists, and what is said of the dust below the slab.
+#[test]
+fn the_list_of_feeders_is_that_of_the_line_before_it() {
+    let readme = readme();
+    let blocks = blocks(section(&readme));
+    let at = blocks.iter().position(|block| block.starts_with("hall feeders ")).expect("a line");
+    let done = beside_halls("readme_feeders", blocks[at]);
+    assert_eq!((done.status, done.text()), (Some(0), blocks[at + 1]), "{}", done.err);
+    assert!(readme.contains("the dust at 3,1,2 of this hall"));
+    let below = hall(&["feeders", "halls/slab-rise.hall", "3,1,2"]);
+    assert!(below.text().contains(": no dust feeds dust 3,1,2 ("), "{}", below.text());
+}
+
 #[test]
 fn each_command_and_each_figure_is_named() {
     let readme = readme();

@@ -20,10 +20,12 @@ fn packed(change: impl FnOnce(&mut Vec<u8>)) -> Vec<u8> {
 
 /// Asserts that every command gives this sentence of an input.
 fn assert_refused(input: &[u8], place: &str, sentence: &str) {
-    for command in ["run", "levels", "csv", "pack", "unpack", "clear", "stream"] {
-        let done = hall_with(&[command, "-"], input);
-        assert_eq!((done.status, done.text()), (Some(2), ""), "{command}");
-        assert_eq!(done.err, format!("hall: standard input:{place} {sentence}.\n"), "{command}");
+    let on_input =
+        ["run", "levels", "csv", "pack", "unpack", "clear", "stream"].map(|command| vec![command, "-"]);
+    for words in on_input.into_iter().chain([vec!["feeders", "-", "0,0,0"]]) {
+        let done = hall_with(&words, input);
+        assert_eq!((done.status, done.text()), (Some(2), ""), "{words:?}");
+        assert_eq!(done.err, format!("hall: standard input:{place} {sentence}.\n"), "{words:?}");
     }
     let done = hall_with(&["check", "-"], input);
     assert_eq!((done.status, done.err.as_str()), (Some(2), ""));

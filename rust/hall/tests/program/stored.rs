@@ -32,9 +32,14 @@ fn cases() -> Vec<(Vec<String>, String)> {
     }
     cases.push((words(&format!("stream {}", bench_samples().join(" "))), "samples.stream.bin".to_owned()));
     cases.push((MERGED_ROOMS.map(str::to_owned).to_vec(), "rooms.merge.txt".to_owned()));
-    for command in
-        ["new", "run", "levels", "check", "report", "csv", "pack", "unpack", "merge", "clear", "stream"]
-    {
+    for (position, end) in [("4,2,0", "feeders"), ("5,1,0", "feeders-down"), ("1,1,0", "feeders-none")] {
+        let command = format!("feeders halls/slab-rise.hall {position}");
+        cases.push((words(&command), format!("slab-rise.{end}.txt")));
+    }
+    for command in [
+        "new", "run", "levels", "feeders", "check", "report", "csv", "pack", "unpack", "merge", "clear",
+        "stream",
+    ] {
         cases.push((words(&format!("{command} --help")), format!("help-{command}.txt")));
     }
     cases.push((words("--help"), "help.txt".to_owned()));

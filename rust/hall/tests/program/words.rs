@@ -38,12 +38,10 @@ fn a_sentence_says_what_to_do() {
         (&["merge", LAMP, LAMP, "1,0,0"], "1,0,0 is one word too many: did you mean --by 1,0,0?"),
         (&["merge", LAMP, LAMP, "--", "-1,0,0"], "-1,0,0 is one word too many: did you mean --by -1,0,0?"),
         (&["merge", "-", "-"], "standard input is named twice: it can be read once."),
-        (
-            &["merge", LAMP, LAMP, "-1,0,0"],
-            "-1,0,0 is not an option of `hall merge`: did you mean --by -1,0,0?",
-        ),
-        (&["merge", LAMP, LAMP, "-1,0"], "-1,0 is not an option of `hall merge`: see `hall merge --help`."),
-        (&["run", LAMP, "-1,0,0"], "-1,0,0 is not an option of `hall run`: see `hall run --help`."),
+        (&["merge", LAMP, LAMP, "-1,0,0"], "-1,0,0 is one word too many: did you mean --by -1,0,0?"),
+        (&["merge", LAMP, LAMP, "-1,0"], "-1,0 is one word too many: give two names, and no third."),
+        (&["run", LAMP, "-1,0,0"], "-1,0,0 is one word too many: give one name."),
+        (&["run", LAMP, "-x,0,0"], "-x,0,0 is not an option of `hall run`: see `hall run --help`."),
         (&["merge", LAMP, LAMP, "--by"], "--by has no value: give --by dx,dy,dz."),
         (&["merge", LAMP, LAMP, "--by", "--profile", "x"], "--by has no value: give --by dx,dy,dz."),
         (&["merge", LAMP, LAMP, "--by=1,0,0", "--by=1,0,0"], "--by is given twice: give it once."),
@@ -71,6 +69,62 @@ fn a_sentence_says_what_to_do() {
         (
             &["merge", LAMP, "halls/slab-rise", "--by", "0,9,0"],
             "halls/slab-rise: there is no such file: did you mean halls/slab-rise.hall?",
+        ),
+        (&["feeder", LAMP, "1,1,0"], "there is no command `feeder`: did you mean `hall feeders`?"),
+        (&["feeders"], "no hall is named: give a file, or - for standard input, and then a position x,y,z."),
+        (&["feeders", LAMP], "no position is given: give one as x,y,z after the file."),
+        (&["feeders", "-"], "no position is given: give one as x,y,z after the file."),
+        (
+            &["feeders", "1,1,0"],
+            "no hall is named: give a file, or - for standard input, before the position.",
+        ),
+        (
+            &["feeders", "-1,1,0"],
+            "no hall is named: give a file, or - for standard input, before the position.",
+        ),
+        (
+            &["feeders", LAMP, "1", "1", "0"],
+            "1 is one word too many: give one file, and one position x,y,z without blanks.",
+        ),
+        (
+            &["feeders", LAMP, "1,1,0", "-2,1,0"],
+            "-2,1,0 is one word too many: give one file, and one position x,y,z without blanks.",
+        ),
+        (
+            &["feeders", "1,1,0", LAMP],
+            "the file comes first, and then the position: give halls/repeater-lock.hall 1,1,0.",
+        ),
+        (&["feeders", "-1,1,0", "-"], "the file comes first, and then the position: give - -1,1,0."),
+        (
+            &["feeders", LAMP, LAMP],
+            "position halls/repeater-lock.hall: found \"halls/repeater-lock.hall\", expected a position x,y,z.",
+        ),
+        (&["feeders", LAMP, "1,1"], "position 1,1: found \"1,1\", expected a position x,y,z."),
+        (&["feeders", LAMP, "-1,1"], "position -1,1: found \"-1,1\", expected a position x,y,z."),
+        (&["feeders", LAMP, "-"], "position -: found \"-\", expected a position x,y,z."),
+        (
+            &["feeders", LAMP, "1,1,east"],
+            "position 1,1,east: found \"east\", expected a whole number from -1000000 to 1000000.",
+        ),
+        (
+            &["feeders", LAMP, "-1000001,1,0"],
+            "position -1000001,1,0: found \"-1000001\", expected a whole number from -1000000 to 1000000.",
+        ),
+        (
+            &["feeders", "1,1,0", "1,1,0"],
+            "1,1,0: there is no such file: look at its name, or begin one with `hall new`.",
+        ),
+        (
+            &["feeders", LAMP, "1,1,0", "--tick", "3"],
+            "--tick is not an option of `hall feeders`: see `hall feeders --help`.",
+        ),
+        (
+            &["feeders", "halls/repeater-lock", "1,1,0"],
+            "halls/repeater-lock: there is no such file: did you mean halls/repeater-lock.hall?",
+        ),
+        (
+            &["feeders", LAMP, "1,1,0", "--profile", "none.bin"],
+            "none.bin: there is no such file: look at its name, or begin one with `hall new`.",
         ),
         (&["clera", LAMP], "there is no command `clera`: did you mean `hall clear`?"),
         (&["clear"], "no hall is named: give a file, or - for standard input."),

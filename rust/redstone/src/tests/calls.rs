@@ -3,8 +3,8 @@
 use super::{Lent, UNTOUCHED};
 use crate::{
     Arm, BENCH_PROFILE, BENCH_PROFILE_WITH_BULB, Device, FARTHEST_OFFSET, Facing, Kind, MERGE_BYTES,
-    MOST_ROWS, ROW_BYTES, Refusal, Rounds, Row, STATE_BYTES, clear, fresh, merge, redraw, rows, settle,
-    supports, switch, table, tick,
+    MOST_FEEDERS, MOST_ROWS, ROW_BYTES, Refusal, Rounds, Row, STATE_BYTES, clear, feeders, fresh, merge,
+    redraw, replace, rows, settle, supports, switch, table, tick,
 };
 
 /// The number and the row of a refusal.
@@ -120,17 +120,18 @@ struct Buffers {
     list: Vec<u16>,
     kept: Vec<u8>,
     passes: Vec<u16>,
+    feeders: Vec<u16>,
 }
 
+const DUST: Row = Row::new(Kind::RedstoneWire, [1, 0, 0]);
 /// The row of the comparator.
 const COMPARATOR: usize = 3;
 
 impl Buffers {
     /// A lamp with a lever on it, about to go out, dust that nothing holds up, and a comparator. Each call writes some of it.
     fn new() -> Self {
-        let dust = Row::new(Kind::RedstoneWire, [1, 0, 0]);
         let comparator = Row::new(Kind::Comparator, [2, 0, 0]).with_power_level(0);
-        let table = [&lamp(true)[..], &dust.bytes(), &comparator.bytes()].concat();
+        let table = [&lamp(true)[..], &DUST.bytes(), &comparator.bytes()].concat();
         let devices = [
             Device::Lamp { lit: true, ticks_left: 2 },
             Device::None,
@@ -145,6 +146,7 @@ impl Buffers {
             lent: Lent::new(devices.len()),
             list: vec![u16::MAX; devices.len()],
             passes: vec![u16::MAX; devices.len()],
+            feeders: vec![0; MOST_FEEDERS * devices.len()],
         }
     }
 }
@@ -152,8 +154,8 @@ impl Buffers {
 /// A call under a profile. One that is not refused writes.
 type Call = fn(&[u8], &mut Buffers) -> Refused;
 
-/// Fresh, settle, tick, switch, redraw, supports and clear.
-const CALLS: [Call; 7] = [
+/// Fresh, settle, tick, switch, redraw, supports, clear, feeders and replace.
+const CALLS: [Call; 9] = [
     |profile, of| refused(fresh(profile, &of.table, &mut of.state, of.lent.columns())),
     |profile, of| refused(settle(profile, &of.table, &of.devices, 17, of.lent.columns())),
     |profile, of| refused(tick(profile, &of.table, &mut of.state, 0, 1, of.lent.columns())),
@@ -161,10 +163,15 @@ const CALLS: [Call; 7] = [
     |profile, of| refused(redraw(profile, &mut of.table)),
     |profile, of| refused(supports(profile, &of.table, &mut of.list)),
     |profile, of| refused(clear(profile, &of.table, &mut of.kept, &mut of.passes)),
+    |profile, of| refused(feeders(profile, &of.table, &mut of.feeders)),
+    |profile, of| {
+        let new_row = DUST.with_kind(Kind::Solid).bytes();
+        refused(replace(profile, &mut of.table, 2, &new_row, &mut of.feeders))
+    },
 ];
 
 /// That each call answers so, and writes exactly where it is not refused.
-fn assert_each(profile: &[u8], buffers: &Buffers, refused: [Refused; 7]) {
+fn assert_each(profile: &[u8], buffers: &Buffers, refused: [Refused; 9]) {
     for (call, refused) in CALLS.into_iter().zip(refused) {
         let mut lent = buffers.clone();
         assert_eq!(call(profile, &mut lent), refused, "{profile:?}");
@@ -179,15 +186,19 @@ fn a_comparators_level_is_refused_exactly_above_15() {
         let overdriven = (level > 15).then_some((10, COMPARATOR));
         let mut buffers = Buffers::new();
         buffers.table[COMPARATOR * ROW_BYTES + 16] = level;
-        assert_each(&BENCH_PROFILE, &buffers, [overdriven; 7]);
+        assert_each(&BENCH_PROFILE, &buffers, [overdriven; 9]);
 
         let mut buffers = Buffers::new();
         buffers.devices[COMPARATOR] = level;
-        assert_each(&BENCH_PROFILE, &buffers, [None, overdriven, None, None, None, None, None]);
+        assert_each(&BENCH_PROFILE, &buffers, [None, overdriven, None, None, None, None, None, None, None]);
 
         let mut buffers = Buffers::new();
         buffers.state[COMPARATOR * STATE_BYTES] = level;
-        assert_each(&BENCH_PROFILE, &buffers, [None, None, overdriven, overdriven, None, None, None]);
+        assert_each(
+            &BENCH_PROFILE,
+            &buffers,
+            [None, None, overdriven, overdriven, None, None, None, None, None],
+        );
     }
 }
 
@@ -200,7 +211,7 @@ fn a_profile_byte_is_refused_exactly_above_its_limit() {
             for value in 0..=u8::MAX {
                 let mut profile = bench.to_vec();
                 profile[kind] = value;
-                assert_each(&profile, &Buffers::new(), [(value > most).then_some((1, 0)); 7]);
+                assert_each(&profile, &Buffers::new(), [(value > most).then_some((1, 0)); 9]);
             }
         }
     }
@@ -210,7 +221,7 @@ fn a_profile_byte_is_refused_exactly_above_its_limit() {
 fn a_profile_has_13_or_14_bytes() {
     for length in 0..=64 {
         let is_good = length == 13 || length == 14;
-        assert_each(&vec![0; length], &Buffers::new(), [(!is_good).then_some((1, 0)); 7]);
+        assert_each(&vec![0; length], &Buffers::new(), [(!is_good).then_some((1, 0)); 9]);
     }
 }
 

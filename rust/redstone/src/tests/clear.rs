@@ -1,7 +1,7 @@
 //! What is left once all that would drop is gone: what is answered and written, beside the support list made again and
 //! again, and beside every set of rows.
 
-use super::UNTOUCHED;
+use super::{Draws, UNTOUCHED, cube};
 use crate::{
     Arm, BENCH_PROFILE, BENCH_PROFILE_WITH_BULB, Buffer, Circuit, Cleared, Facing, Fault, Kind, MOST_ROWS,
     PROFILE_BYTES_WITH_BULB, ROW_BYTES, Refusal, Row, Shape, clear, cleared, supports, table,
@@ -62,20 +62,7 @@ fn by_list(profile: &[u8], rows: &[Row]) -> Cleared {
     }
 }
 
-/// Numbers that look as if they were drawn.
-struct Draws(u64);
-
 impl Draws {
-    /// A number below a limit.
-    fn below(&mut self, limit: u64) -> u64 {
-        self.0 = self.0.wrapping_mul(6_364_136_223_846_793_005).wrapping_add(1_442_695_040_888_963_407);
-        (self.0 >> 33) % limit
-    }
-
-    fn one_of<T: Copy>(&mut self, all: &[T]) -> T {
-        all[self.below(all.len() as u64) as usize]
-    }
-
     /// A profile by which about half of the kinds support components.
     fn profile(&mut self) -> Vec<u8> {
         [0].into_iter().chain((1..PROFILE_BYTES_WITH_BULB).map(|_| self.below(2) as u8)).collect()
@@ -95,11 +82,6 @@ impl Draws {
         }
         rows
     }
-}
-
-/// The positions of a cube, in the table's order.
-fn cube(cells: i32) -> impl Iterator<Item = [i32; 3]> {
-    (0..cells).flat_map(move |x| (0..cells).flat_map(move |y| (0..cells).map(move |z| [x, y, z])))
 }
 
 #[test]

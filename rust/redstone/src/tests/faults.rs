@@ -2,9 +2,9 @@
 
 use super::Lent;
 use crate::{
-    BENCH_PROFILE, BENCH_PROFILE_WITH_BULB, Buffer, Circuit, Device, Facing, Fault, Kind, MOST_ROWS,
-    PROFILE_BYTES, ROW_BYTES, Refusal, Row, STATE_BYTES, WhichTable, checks, clear, find, fresh, redraw,
-    settle, supports, switch, table, tick,
+    BENCH_PROFILE, BENCH_PROFILE_WITH_BULB, Buffer, Circuit, Device, Facing, Fault, Kind, MOST_FEEDERS,
+    MOST_ROWS, PROFILE_BYTES, ROW_BYTES, Refusal, Row, STATE_BYTES, WhichTable, checks, clear, feeders, find,
+    fresh, redraw, replace, settle, supports, switch, table, tick,
 };
 
 /// What all calls take.
@@ -24,6 +24,12 @@ struct Input {
     kept: usize,
     /// The length of the column of passes.
     passes: usize,
+    /// The length of the list of feeders.
+    feeders: usize,
+    /// The number of the row that is replaced.
+    row: u16,
+    /// What replaces it.
+    new_row: Vec<u8>,
     limit: u32,
     tick: u32,
 }
@@ -42,6 +48,9 @@ impl Input {
             list: rows,
             kept: ROW_BYTES * rows,
             passes: rows,
+            feeders: MOST_FEEDERS * rows,
+            row: 0,
+            new_row: circuit.table()[..ROW_BYTES].to_vec(),
             limit: 17,
             tick: 0,
         }
@@ -87,12 +96,13 @@ impl Input {
 
     /// What every call answers, where it is refused. The reason has the number and the row of the answer; and where a
     /// call is not refused, the tests for the reason find nothing.
-    fn refusals(&self) -> [Option<Refusal>; 7] {
-        let Self { profile, table, devices, state, limit, tick: number, .. } = self;
+    fn refusals(&self) -> [Option<Refusal>; 9] {
+        let Self { profile, table, devices, state, row, new_row, limit, tick: number, .. } = self;
         let mut lent = Lent::of_lengths(self.columns);
         let lengths = &lent.columns().lengths();
         let (mut fresh_state, mut list) = (vec![0; self.fresh], vec![0; self.list]);
         let (mut kept, mut passes) = (vec![0; self.kept], vec![0; self.passes]);
+        let mut of_feeders = vec![0; self.feeders];
         let of_clear = &[(Buffer::Kept, self.kept), (Buffer::Passes, self.passes)];
         let answers = [
             (
@@ -116,6 +126,14 @@ impl Input {
             (
                 clear(profile, table, &mut kept, &mut passes).err(),
                 checks::clear(profile, table, of_clear).err(),
+            ),
+            (
+                feeders(profile, table, &mut of_feeders).err(),
+                checks::feeders(profile, table, &of_feeders).err(),
+            ),
+            (
+                replace(profile, &mut table.clone(), *row, new_row, &mut of_feeders).err(),
+                checks::replace(profile, table, *row, new_row, &of_feeders).err(),
             ),
         ];
         answers.map(|(answer, found)| {
@@ -172,6 +190,17 @@ fn reasons_agree_with_the_answers_on_every_table_byte() {
 }
 
 #[test]
+fn reasons_agree_with_the_answers_on_every_byte_of_a_new_row() {
+    for row in 0..9 {
+        let mut input = Input::devices();
+        let bytes = &input.table[ROW_BYTES * row..][..ROW_BYTES];
+        (input.row, input.new_row) = (row as u16, bytes.to_vec());
+        every_byte(&input, |input| &mut input.new_row);
+    }
+    every_byte(&small(), |input| &mut input.new_row);
+}
+
+#[test]
 fn reasons_agree_with_the_answers_on_every_device_byte() {
     every_byte(&Input::devices(), |input| &mut input.devices);
     every_byte(&Input::all_kinds(), |input| &mut input.devices);
@@ -187,7 +216,7 @@ fn reasons_agree_with_the_answers_on_every_state_byte() {
 #[test]
 fn reasons_agree_with_the_answers_on_every_length() {
     let input = Input::devices();
-    assert_eq!(input.refusals(), [None; 7]);
+    assert_eq!(input.refusals(), [None; 9]);
     for length in (0..64).chain([MOST_ROWS, MOST_ROWS + 1]) {
         for change in [
             |input: &mut Input, length| input.profile.resize(length, 0),
@@ -204,7 +233,11 @@ fn reasons_agree_with_the_answers_on_every_length() {
             |input, length| input.kept = length,
             |input, length| input.kept = ROW_BYTES * length,
             |input, length| input.passes = length,
-        ] as [fn(&mut Input, usize); 14]
+            |input, length| input.feeders = length,
+            |input, length| input.feeders = MOST_FEEDERS * length,
+            |input, length| input.new_row.resize(length, 0),
+            |input, length| input.row = length as u16,
+        ] as [fn(&mut Input, usize); 18]
         {
             let mut tried = input.clone();
             change(&mut tried, length);
@@ -216,7 +249,7 @@ fn reasons_agree_with_the_answers_on_every_length() {
 /// Two things wrong at once: the first of the table of refusals is given.
 #[test]
 fn reasons_agree_with_the_answers_on_two_faults() {
-    let changes: [Change; 22] = [
+    let changes: [Change; 28] = [
         |input| input.profile[0] = 1,
         |input| input.profile.resize(20, 0),
         |input| input.profile.truncate(PROFILE_BYTES),
@@ -237,6 +270,12 @@ fn reasons_agree_with_the_answers_on_two_faults() {
         |input| input.list += 1,
         |input| input.kept -= 1,
         |input| input.passes += 1,
+        |input| input.feeders += 1,
+        |input| input.new_row.push(0),
+        |input| input.new_row[31] = 1,
+        |input| input.new_row[8] = 9,
+        |input| input.new_row[12..17].copy_from_slice(&[6, 0, 0, 1, 16]),
+        |input| input.row = u16::MAX,
         |input| input.limit = 1,
         |input| input.tick = u32::MAX,
     ];
@@ -348,12 +387,55 @@ fn each_reason_says_what_is_wrong_and_what_would_be_right() {
         "the room for the kept rows has length 65; for this table it must be 64"
     );
     assert_eq!(
+        message(|input| input.feeders = 23),
+        "the list of feeders has length 23; for this table it must be 24"
+    );
+    assert_eq!(
         message(|input| input.limit = 1),
         "the table does not settle within a limit of 1; 17 is always enough"
     );
     assert_eq!(
         message(|input| input.tick = u32::MAX),
         "tick 4294967295 plus 1 is past 4294967295, the last; 0 more can be asked for"
+    );
+}
+
+/// Of a row that is to replace another, which it is told apart from by these words.
+#[test]
+fn the_reason_says_what_a_new_row_may_be() {
+    assert_eq!(message(|input| input.new_row.push(0)), "the new row 0 has length 33; it must be 32");
+    assert_eq!(
+        message(|input| input.new_row[29] = 2),
+        "the new row 0 at 0,0,0: subtract (byte 29) is 2; it may be from 0 to 1"
+    );
+    assert_eq!(
+        message(|input| input.new_row[12] = 13),
+        "the new row 0 at 0,0,0: kind (byte 12) is 13; that is CopperBulb, and the profile has 13 bytes: give it a \
+         fourteenth, the bulb's, such as 7"
+    );
+    assert_eq!(
+        message(|input| input.new_row[4] = 7),
+        "the new row 0 is at 0,7,0; it must be at 0,0,0, where row 0 is"
+    );
+    assert_eq!(
+        message(|input| input.row = 1),
+        "the new row 1 is at 0,0,0; it must be at 1,2,3, where row 1 is"
+    );
+    assert_eq!(
+        message(|input| input.row = 2),
+        "no row 2 is there for the new one at 0,0,0 to replace; the table has 2 rows, numbered from 0, and at that position \
+         is row 0"
+    );
+    assert_eq!(
+        message(|input| {
+            input.row = 65_535;
+            input.new_row[4] = 7;
+        }),
+        "no block is at 0,7,0 for the new row 65535 to replace; the table has 2 rows, numbered from 0"
+    );
+    assert_eq!(
+        message(|input| input.new_row[12..17].copy_from_slice(&[6, 0, 0, 1, 16])),
+        "the new row 0 at 0,0,0: power level (byte 16) is 16; a comparator's may be at most 15"
     );
 }
 
@@ -432,8 +514,8 @@ fn the_reason_says_how_large_a_comparators_level_may_be() {
     );
 }
 
-/// The number and the row that fresh, settle, tick, switch, redraw, supports and clear are refused with.
-fn refused(changes: &[Change]) -> [Option<(u32, usize)>; 7] {
+/// The number and the row that fresh, settle, tick, switch, redraw, supports, clear, feeders and replace are refused with.
+fn refused(changes: &[Change]) -> [Option<(u32, usize)>; 9] {
     let mut input = comparators();
     changes.iter().for_each(|change| change(&mut input));
     input.refusals().map(|refusal| refusal.map(|refusal| (refusal.number, refusal.row)))
@@ -444,9 +526,9 @@ fn refused(changes: &[Change]) -> [Option<(u32, usize)>; 7] {
 fn a_rows_level_is_tested_after_5_and_before_6() {
     let [first, second]: [Change; 2] =
         [|input| input.table[16] = 16, |input| input.table[ROW_BYTES + 16] = 255];
-    assert_eq!(refused(&[first]), [Some((10, 0)); 7]);
-    assert_eq!(refused(&[second]), [Some((10, 1)); 7]);
-    assert_eq!(refused(&[second, first]), [Some((10, 0)); 7]);
+    assert_eq!(refused(&[first]), [Some((10, 0)); 9]);
+    assert_eq!(refused(&[second]), [Some((10, 1)); 9]);
+    assert_eq!(refused(&[second, first]), [Some((10, 0)); 9]);
     let before: [(Change, _); 5] = [
         (|input| input.profile[0] = 1, (1, 0)),
         (|input| input.table.push(0), (2, 0)),
@@ -455,9 +537,9 @@ fn a_rows_level_is_tested_after_5_and_before_6() {
         (|input| input.table[2 * ROW_BYTES] = 1, (5, 2)),
     ];
     for (other, answer) in before {
-        assert_eq!(refused(&[first, other]), [Some(answer); 7]);
+        assert_eq!(refused(&[first, other]), [Some(answer); 9]);
     }
-    let after: [Change; 11] = [
+    let after: [Change; 14] = [
         |input| input.devices.push(0),
         |input| input.devices[0] = 16,
         |input| input.state.push(0),
@@ -467,18 +549,21 @@ fn a_rows_level_is_tested_after_5_and_before_6() {
         |input| input.list += 1,
         |input| input.kept += 1,
         |input| input.passes += 1,
+        |input| input.feeders += 1,
+        |input| input.new_row.push(0),
+        |input| input.row = 7,
         |input| input.limit = 0,
         |input| input.tick = u32::MAX,
     ];
     for other in after {
-        assert_eq!(refused(&[second, other]), [Some((10, 1)); 7]);
+        assert_eq!(refused(&[second, other]), [Some((10, 1)); 9]);
     }
 }
 
 /// A level of the device column is tested after 6, over all rows, and before 7.
 #[test]
 fn a_device_columns_level_is_tested_after_6_and_before_7() {
-    let settle_alone = |answer| [None, Some(answer), None, None, None, None, None];
+    let settle_alone = |answer| [None, Some(answer), None, None, None, None, None, None, None];
     let [first, second]: [Change; 2] = [|input| input.devices[0] = 16, |input| input.devices[1] = 255];
     assert_eq!(refused(&[first]), settle_alone((10, 0)));
     assert_eq!(refused(&[second]), settle_alone((10, 1)));
@@ -488,14 +573,14 @@ fn a_device_columns_level_is_tested_after_6_and_before_7() {
     assert_eq!(refused(&[first, |input| input.devices[2] = 255]), settle_alone((6, 2)));
     assert_eq!(refused(&[second, |input| input.limit = 0]), settle_alone((10, 1)));
     let column = Some((7, 0));
-    let answers = [column, Some((10, 1)), column, column, None, None, None];
+    let answers = [column, Some((10, 1)), column, column, None, None, None, None, None];
     assert_eq!(refused(&[second, |input| input.columns[2] += 1]), answers);
 }
 
 /// A level of the state is tested after 6, over all rows and bytes, and before 7.
 #[test]
 fn a_states_level_is_tested_after_6_and_before_7() {
-    let tick_and_switch = |answer| [None, None, Some(answer), Some(answer), None, None, None];
+    let tick_and_switch = |answer| [None, None, Some(answer), Some(answer), None, None, None, None, None];
     let [first, second]: [Change; 2] = [|input| input.state[0] = 16, |input| input.state[STATE_BYTES] = 255];
     assert_eq!(refused(&[first]), tick_and_switch((10, 0)));
     assert_eq!(refused(&[second]), tick_and_switch((10, 1)));
@@ -505,7 +590,7 @@ fn a_states_level_is_tested_after_6_and_before_7() {
     assert_eq!(refused(&[first, |input| input.state[2 * STATE_BYTES] = 255]), tick_and_switch((6, 2)));
     assert_eq!(refused(&[second, |input| input.tick = u32::MAX]), tick_and_switch((10, 1)));
     let column = Some((7, 0));
-    let answers = [column, column, Some((10, 1)), Some((10, 1)), None, None, None];
+    let answers = [column, column, Some((10, 1)), Some((10, 1)), None, None, None, None, None];
     assert_eq!(refused(&[second, |input| input.columns[0] += 1]), answers);
 }
 

@@ -6,8 +6,8 @@ use crate::answer::REFUSALS;
 use crate::c::{DECLARED, Parameter};
 use crate::{
     Arm, BENCH_PROFILE, BENCH_PROFILE_WITH_BULB, FARTHEST, FARTHEST_OFFSET, Facing, Kind, MERGE_BYTES,
-    MOST_LEVEL, MOST_ROWS, PROFILE_BYTES, PROFILE_BYTES_WITH_BULB, ROW_BYTES, Rounds, STATE_BYTES, Shape,
-    TORCH_CHARGES_ABOVE,
+    MOST_FEEDERS, MOST_LEVEL, MOST_ROWS, NO_ROW, PROFILE_BYTES, PROFILE_BYTES_WITH_BULB, ROW_BYTES, Rounds,
+    STATE_BYTES, Shape, TORCH_CHARGES_ABOVE,
 };
 
 const HEADER: &str = include_str!("../../include/redstone.h");
@@ -85,6 +85,7 @@ fn rust_type(c_type: &str) -> &'static str {
         "uint8_t *" => "*mut u8",
         "uint16_t *" => "*mut u16",
         "size_t" => "usize",
+        "uint16_t" => "u16",
         "uint32_t" => "u32",
         "int32_t" => "i32",
         _ => panic!("a type that no call has: {c_type}"),
@@ -110,9 +111,11 @@ fn the_header_has_the_constants() {
         ("FARTHEST", FARTHEST as usize),
         ("FARTHEST_OFFSET", FARTHEST_OFFSET as usize),
         ("MERGE_BYTES", MERGE_BYTES),
+        ("MOST_FEEDERS", MOST_FEEDERS),
     ];
     let sizes = sizes.map(|(name, size)| (format!("REDSTONE_{name}"), size.to_string()));
     let torch = ("REDSTONE_TORCH_CHARGES_ABOVE".to_owned(), TORCH_CHARGES_ABOVE.to_string());
+    let no_row = ("REDSTONE_NO_ROW".to_owned(), NO_ROW.to_string());
     let profile = |name: &str, bytes: &[u8]| {
         let bytes: Vec<_> = bytes.iter().map(u8::to_string).collect();
         (format!("REDSTONE_{name}"), format!("{{{}}}", bytes.join(", ")))
@@ -127,7 +130,7 @@ fn the_header_has_the_constants() {
         .chain(codes("FACING", Facing::ALL))
         .chain(codes("ARM", Arm::ALL))
         .chain(codes("SHAPE", Shape::ALL))
-        .chain([torch])
+        .chain([torch, no_row])
         .chain(profiles);
     let defined = defined().into_iter().map(|(name, value)| (name.to_owned(), value.to_owned()));
     assert_eq!(defined.collect::<Vec<_>>(), constants.collect::<Vec<_>>());

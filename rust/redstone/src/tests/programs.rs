@@ -81,6 +81,18 @@ pass 3: row 2
 2 of 5 rows are kept
 ";
 
+/// What both examples of feeders write, but for their refusals.
+const FEEDERS: &str = "\
+0,0,0 is fed by 1,0,0: Horizontal
+1,0,0 is fed by 0,0,0: Horizontal
+1,0,0 is fed by 2,1,0: FallThroughConductor
+2,1,0 is fed by 1,0,0: Rise
+with a slab
+0,0,0 is fed by 1,0,0: Horizontal
+1,0,0 is fed by 0,0,0: Horizontal
+2,1,0 is fed by 1,0,0: Rise
+";
+
 #[test]
 fn the_examples_in_c_run() {
     assert_eq!(c_program("examples/lamp.c"), format!("{LAMP}tick 7, refused: refusal 4, row 2\n"));
@@ -88,6 +100,7 @@ fn the_examples_in_c_run() {
     assert_eq!(c_program("examples/bulb.c"), format!("{BULB}{refusal}\n"));
     assert_eq!(c_program("examples/rooms.c"), format!("{ROOMS}refusal 12, row 0\n"));
     assert_eq!(c_program("examples/floor.c"), format!("{FLOOR}refusal 7, row 0\n"));
+    assert_eq!(c_program("examples/feeders.c"), format!("{FEEDERS}refusal 5, row 2\n"));
 }
 
 #[test]
@@ -103,6 +116,9 @@ fn the_examples_in_rust_run() {
     let refusal =
         "refusal 7, column: the room for the kept rows has length 64; for this table it must be 160";
     assert_eq!(rust_example("floor"), format!("{FLOOR}{refusal}\n"));
+    let refusal = "refusal 5, misplaced: no block is at 2,2,0 for the new row 4 to replace; the table has 4 rows, numbered \
+                   from 0";
+    assert_eq!(rust_example("feeders"), format!("{FEEDERS}{refusal}\n"));
 }
 
 #[test]

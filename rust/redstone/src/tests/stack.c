@@ -18,6 +18,7 @@ static uint16_t rows[ROWS];
 static uint8_t merged[REDSTONE_MERGE_BYTES];
 static uint8_t kept[sizeof table];
 static uint16_t passes[ROWS];
+static uint16_t feeders[ROWS * REDSTONE_MOST_FEEDERS];
 
 /* Where the stack was when the calls began. */
 static uint8_t *start;
@@ -61,6 +62,9 @@ static void *calls(void *unused) {
     accepted(redstone_supports(profile, sizeof profile, table, sizeof table, rows, ROWS));
     accepted(redstone_merge(table, sizeof table, table, sizeof table, 0, 0, 0, merged, sizeof merged));
     accepted(redstone_clear(profile, sizeof profile, table, sizeof table, kept, sizeof kept, passes, ROWS));
+    accepted(redstone_feeders(profile, sizeof profile, table, sizeof table, feeders, ROWS * REDSTONE_MOST_FEEDERS));
+    accepted(redstone_replace(profile, sizeof profile, table, sizeof table, 0, merged, REDSTONE_ROW_BYTES, feeders,
+                              ROWS * REDSTONE_MOST_FEEDERS));
     return unused;
 }
 
