@@ -1,10 +1,13 @@
 //! Times the proved calls, and then the program `month`, beside the original on the same tables, two tables in one beside
-//! an ordered map, and the clearing of rows beside the original's support list, and prints the medians as markdown tables.
+//! an ordered map, the clearing of rows beside the original's support list, the list of what feeds dust beside the original's
+//! transfers, and the list that is kept up beside one that is built anew, and prints the medians as markdown tables.
 
 #[cfg(not(no_original))]
 mod calls;
 #[cfg(not(no_original))]
 mod clear;
+#[cfg(not(no_original))]
+mod feeders;
 #[cfg(not(no_original))]
 mod merge;
 #[cfg(not(no_original))]
@@ -61,6 +64,27 @@ fn main() {
         println!("| {} | {} |", case.sort, clear::medians_of(&case));
     }
     println!("\n{NOTES_ON_CLEAR}");
+    print_feeders();
+}
+
+/// The list of what feeds dust, and then the same kept up.
+#[cfg(not(no_original))]
+fn print_feeders() {
+    println!("\n| table | the original is asked | original | proved | original / proved | runs |");
+    println!("|---|---|---:|---:|---:|---:|");
+    for case in calls::cases() {
+        feeders::assert_sides_agree(&case);
+        for (asked, medians) in feeders::medians_of_lists(&case) {
+            println!("| {} | {asked} | {medians} |", case.sort);
+        }
+    }
+    println!("\n{NOTES_ON_LISTS}");
+    println!("\n| table | list anew | list kept up | anew / kept up | runs |");
+    println!("|---|---:|---:|---:|---:|");
+    for case in calls::cases().filter(|case| case.rows() > 0) {
+        println!("| {} | {} |", case.sort, feeders::medians_of_replacements(&case));
+    }
+    println!("\n{NOTES_ON_REPLACEMENTS}");
 }
 
 #[cfg(not(no_original))]
@@ -100,3 +124,17 @@ removed from is made before the clock starts. The proved call tests the profile 
 the passes, too. The support of each row that needs one is looked up once, from the first row on, as in the look-ups above.
 Then each pass goes over all rows, and a last one finds none that goes: a tower that falls is gone over 1,025 times. Both
 named the same rows in the same passes before they were timed.";
+
+#[cfg(not(no_original))]
+const NOTES_ON_LISTS: &str = "\
+Each figure is the median time of one list, by turns with the other side in one process. The original has no list. In its
+place stand its `dust_transmits` of every two rows, and of the dust at the twelve positions around each dust, as it asks
+where it settles; its world is made before the clock starts. The proved call asks the twelve positions, too, and looks them
+up by halves; but the blocks by which arms and rules are judged it looks up from the first row on, as in the look-ups above.
+It also tests the profile and every row. Both gave the same lists before they were timed.";
+
+#[cfg(not(no_original))]
+const NOTES_ON_REPLACEMENTS: &str = "\
+Each figure is the median time of one replacement, by turns with the other way in one process: a dust in the middle becomes
+a solid block, then dust again. Anew the row is written to the table and the list is built by the proved call. Kept up, the
+other proved call does both. Both calls test the profile and every row. At the end the tables and the lists were the same.";

@@ -17,7 +17,7 @@ use redstone::Row;
 
 use crate::compare::{Answer, Answers};
 use crate::generate::Case;
-use crate::lent::Lent;
+use crate::lent::{Lent, unlike_bytes, unlike_entries};
 use crate::probe::{Probe, redstone_clear};
 use crate::refusals::{Asked, Refusal, Written};
 use reading::{Cleared, write};
@@ -53,9 +53,7 @@ impl Clear {
 
     /// So many bytes and entries, of which no two that are near each other are the same.
     pub fn of_lengths(kept: usize, passes: usize) -> Self {
-        let byte = |at: usize| 0xb5 ^ (29 * at) as u8;
-        let entry = |at| u16::from_le_bytes([byte(at), !byte(at + 7)]);
-        Self { kept: (0..kept).map(byte).collect(), passes: (0..passes).map(entry).collect() }
+        Self { kept: unlike_bytes(kept), passes: unlike_entries(passes) }
     }
 
     /// What a refusal may fall on.

@@ -12,11 +12,13 @@ use std::fmt::{self, Display, Formatter};
 use redstone::{Kind, PROFILE_BYTES, PROFILE_BYTES_WITH_BULB, ROW_BYTES, Row, TORCH_CHARGES_ABOVE};
 use redstone_text::row_text;
 
+use crate::dust::is_dust;
 use crate::random::Random;
+use crate::table::rows;
 
 pub use leaning::{NEEDING, NOT_SUPPORTING, SUPPORTING, ring_places};
 pub use redstone::{BENCH_PROFILE, BENCH_PROFILE_WITH_BULB};
-pub use rows::any_arms;
+pub use rows::{any_arms, any_row};
 
 /// The places of the torch's byte in a profile, and of the bulb's where there is one.
 pub const TORCH: usize = Kind::RedstoneTorch.code() as usize;
@@ -140,6 +142,19 @@ pub fn case(seed: u64) -> Case {
 /// The accepted case of a seed whose rows hold each other up, or would.
 pub fn leaning_case(seed: u64) -> Case {
     of_sorts(&leaning::SORTS, seed)
+}
+
+/// In every other case dust has any arms stored, more of it or less.
+pub fn with_arms(random: &mut Random, mut case: Case) -> Case {
+    if random.percent(50) {
+        let share = random.pick(&[20, 50, 100]);
+        let with_arms = |row: Row| {
+            let is_drawn = is_dust(&row) && random.percent(share);
+            if is_drawn { row.with_arms(any_arms(random)) } else { row }
+        };
+        case.table = redstone::table(rows(&case.table).into_iter().map(with_arms));
+    }
+    case
 }
 
 /// Of six tables two have a profile without a byte for the bulb, and one more has no bulbs.

@@ -30,6 +30,20 @@ pub fn fill<T>(out: &mut [T], entries: impl IntoIterator<Item = T>) {
     out.iter_mut().zip(entries).for_each(|(out, entry)| *out = entry);
 }
 
+/// So many bytes, of which no two that are near each other are the same.
+pub fn unlike_bytes(count: usize) -> Vec<u8> {
+    (0..count).map(unlike_byte).collect()
+}
+
+/// So many entries of 16 bits, of which no two that are near each other are the same.
+pub fn unlike_entries(count: usize) -> Vec<u16> {
+    (0..count).map(|at| u16::from_le_bytes([unlike_byte(at), !unlike_byte(at + 7)])).collect()
+}
+
+fn unlike_byte(at: usize) -> u8 {
+    0xb5 ^ (29 * at) as u8
+}
+
 /// The guards on each side.
 pub const GUARDS: usize = 16;
 

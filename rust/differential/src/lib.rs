@@ -1,6 +1,7 @@
 //! Holds the proved functions of the static libraries `probe` and `redstone`, and the programs `settle` and `month`,
 //! against the original Rust, and look-ups on rows in any order, what a torch charges, the light of bulbs, what is
-//! overdriven, two tables in one, the rows that are cleared and the redraw and the switch in either order against document 02.
+//! overdriven, two tables in one, the rows that are cleared, the redraw and the switch in either order and the list of what
+//! feeds dust against document 02.
 
 pub mod bulb;
 #[cfg(not(no_original))]
@@ -14,8 +15,10 @@ pub mod damage;
 pub mod devices;
 pub mod differences;
 pub mod disorder;
+pub mod dust;
 pub mod either_order;
 pub mod faults;
+pub mod feeders;
 pub mod generate;
 pub mod lent;
 pub mod look_up;

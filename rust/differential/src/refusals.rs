@@ -40,6 +40,8 @@ pub struct Asked<'a> {
     pub table: &'a [u8],
     /// What the call reads of devices, if it does.
     pub devices: Option<Devices<'a>>,
+    /// What the call puts in the place of a row, if it does.
+    pub new_row: Option<NewRow<'a>>,
     /// The buffers that are lent to be written for each row.
     pub lent: Vec<Written>,
     /// The tick's number, and the ticks asked for.
@@ -49,7 +51,7 @@ pub struct Asked<'a> {
 impl<'a> Asked<'a> {
     /// By a call that has a profile and a table alone.
     pub fn new(profile: &'a [u8], table: &'a [u8]) -> Self {
-        Self { profile, table, devices: None, lent: Vec::new(), clock: None }
+        Self { profile, table, devices: None, new_row: None, lent: Vec::new(), clock: None }
     }
 }
 
@@ -73,6 +75,13 @@ impl<'a> Devices<'a> {
     pub fn rows(self) -> impl Iterator<Item = &'a [u8]> {
         self.bytes.chunks_exact(self.width)
     }
+}
+
+/// The bytes of a row, and the number of the row that they replace, as both are given.
+#[derive(Clone, Copy, Debug)]
+pub struct NewRow<'a> {
+    pub row: usize,
+    pub bytes: &'a [u8],
 }
 
 /// The length of a buffer, and the entries of it that are a row's.

@@ -1,6 +1,6 @@
 //! Tables written as rows of text, with something by hand beside each row.
 
-use redstone::Row;
+use redstone::{Facing, Row};
 use redstone_text::Table;
 
 /// The profile, which is a line of its own or nothing for the bench profile with the bulb, and the rows, each with what is
@@ -15,4 +15,23 @@ pub fn read<T: Copy>(what: &str, profile: &str, rows: &[(&str, T)]) -> (Vec<u8>,
     });
     let rows = rows.collect();
     (profile_bytes, rows)
+}
+
+/// A row after a quarter turn of its table, by which the North comes to the East.
+pub fn turned(row: &Row) -> Row {
+    let [x, y, z] = row.position();
+    let support = row.support().map(|[x, y, z]| [-z, y, x]);
+    let arms = row.arms().map(|[north, east, south, west]| [west, north, east, south]);
+    let facing = row.facing().map(turned_facing);
+    row.with_position([-z, y, x]).with_support(support).with_arms(arms).with_facing(facing)
+}
+
+fn turned_facing(facing: Facing) -> Facing {
+    match facing {
+        Facing::North => Facing::East,
+        Facing::East => Facing::South,
+        Facing::South => Facing::West,
+        Facing::West => Facing::North,
+        vertical => vertical,
+    }
 }

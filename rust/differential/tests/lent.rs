@@ -5,7 +5,9 @@ use std::fmt::Debug;
 use differential::generate::{BENCH_PROFILE, Case};
 use differential::lent::{Entry, GUARDS, Lent};
 use differential::merge::OUT_BYTES;
-use differential::probe::{probe_support_issues, redstone_clear, redstone_merge};
+use differential::probe::{
+    probe_support_issues, redstone_clear, redstone_feeders, redstone_merge, redstone_replace,
+};
 use redstone::{Columns, Kind, Row};
 
 /// Writes each of these values for an entry to every place in and around buffers of some lengths.
@@ -111,4 +113,24 @@ fn a_clearing_that_writes_outside_is_noticed() {
     assert_eq!(cleared_outside(1, 0), [vec![(-1, 1)], vec![(-1, 1)]]);
     assert_eq!(cleared_outside(0, 1), [vec![], vec![(1, 0)]]);
     assert_eq!(cleared_outside(2, 0), [vec![(-2, 1), (-1, 0)], vec![(-2, 1), (-1, 0)]]);
+}
+
+/// The same of the list of two dust, where it is built and where the second becomes a block.
+fn fed_outside(late: usize, early: usize) -> [Vec<(isize, u16)>; 2] {
+    let [dust, more_dust] = [0, 1].map(|x| Row::new(Kind::RedstoneWire, [x, 0, 0]));
+    let Case { profile, mut table, .. } = Case::new("two dust", BENCH_PROFILE, [dust, more_dust]);
+    let [mut built, mut replaced] = [(); 2].map(|()| Lent::untouched(24 - late - early));
+    let [lent, lent_again] =
+        [&mut built, &mut replaced].map(|list| &mut list.with_guards()[GUARDS - late..][..24]);
+    assert_eq!(redstone_feeders(&profile, &table, lent), 2);
+    let block = more_dust.with_kind(Kind::Solid).bytes();
+    assert_eq!(redstone_replace(&profile, &mut table, 1, &block, lent_again), 2);
+    [built, replaced].map(|list| list.returned().outside)
+}
+
+#[test]
+fn a_list_of_feeders_that_is_written_outside_is_noticed() {
+    assert_eq!(fed_outside(0, 0), [vec![], vec![]]);
+    assert_eq!(fed_outside(1, 0), [vec![(-1, 1)], vec![(-1, 65_535)]]);
+    assert_eq!(fed_outside(0, 2), [(); 2].map(|()| vec![(22, 65_535), (23, 65_535)]));
 }

@@ -3,11 +3,10 @@
 use redstone::{ROW_BYTES, Row, STATE_BYTES};
 
 use super::Switch;
-use super::reading::is_dust;
 use crate::compare::Answers;
 use crate::damage::{damage_bytes, damaged, other_length, overdrive};
 use crate::devices::any_state;
-use crate::generate::{self, Case, any_arms};
+use crate::generate::{self, Case, with_arms};
 use crate::positions::{any_position, beside};
 use crate::probe::Probe;
 use crate::random::Random;
@@ -46,19 +45,6 @@ pub fn generated(seed: u64) -> Generated {
     let mut with_faults = with_other_state.clone();
     damage(random, &rows, &mut with_faults, 40);
     Generated { case, switch, with_other_state, with_faults }
-}
-
-/// In every other case dust has any arms stored, more of it or less.
-pub(super) fn with_arms(random: &mut Random, mut case: Case) -> Case {
-    if random.percent(50) {
-        let share = random.pick(&[20, 50, 100]);
-        let with_arms = |row: Row| {
-            let is_drawn = is_dust(&row) && random.percent(share);
-            if is_drawn { row.with_arms(any_arms(random)) } else { row }
-        };
-        case.table = redstone::table(table::rows(&case.table).into_iter().map(with_arms));
-    }
-    case
 }
 
 /// The place of a row or of none, near a row or at the ends of 32 bits.

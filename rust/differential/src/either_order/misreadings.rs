@@ -8,9 +8,10 @@ use redstone::{Arm, Kind, ROW_BYTES, Row};
 
 use super::Law;
 use super::reading::{
-    Arms, Blocks, Packed, READING, Reading, arm, arms, arms_by, blocks, is_dust, lone, opposite, redraw_by,
-    redraw_with, row_at, switch, with_opposite,
+    Packed, READING, Reading, arms, arms_by, blocks, lone, redraw_by, redraw_with, row_at, switch,
+    with_opposite,
 };
+use crate::dust::{Arms, Blocks, entry, inferred, is_dust, opposite};
 use crate::refusals::{Asked, ORDER};
 use crate::table::{ABOVE, HORIZONTAL, Position, coordinates, is_on_ground, moved};
 
@@ -192,7 +193,7 @@ pub const MISREADINGS: [Misreading; 61] = [
         reading.redraw = |profile, rows| {
             redraw_with(profile, rows, |blocks, dust| {
                 let on = |side| beside(blocks, dust, side).filter(|block| is_on(block)).map(|_| Arm::Side);
-                with_opposite(arms_by(|side| arm(blocks, dust, side).or_else(|| on(side))))
+                with_opposite(arms_by(|side| inferred(blocks, dust, side).or_else(|| on(side))))
             })
         };
     }),
@@ -329,7 +330,7 @@ pub const MISREADINGS: [Misreading; 61] = [
     misreading("stored entries are kept, and only missing ones are drawn", NONE, |reading| {
         reading.redraw = |profile, rows| {
             redraw_with(profile, rows, |blocks, dust| {
-                with_opposite(arms_by(|side| entry(dust, side).or_else(|| arm(blocks, dust, side))))
+                with_opposite(arms_by(|side| entry(dust, side).or_else(|| inferred(blocks, dust, side))))
             })
         };
     }),
@@ -388,11 +389,6 @@ const fn not_in_tables(what: &'static str, broken: &'static [Law], change: fn(&m
     Misreading { what, broken, shows_in_tables: false, change }
 }
 
-/// The entry that a row stores for a side.
-fn entry(row: &Row, side: usize) -> Option<Arm> {
-    row.arms().and_then(|arms| arms[side])
-}
-
 fn is_on(row: &Row) -> bool {
     row.powered() == Some(true)
 }
@@ -403,7 +399,7 @@ fn beside<'a>(blocks: &'a Blocks, dust: &Row, side: usize) -> Option<&'a Row> {
 
 /// The arms but those to blocks that are so.
 fn arms_unless(blocks: &Blocks, dust: &Row, is: fn(&Row) -> bool) -> Arms {
-    arms_by(|side| arm(blocks, dust, side).filter(|_| !beside(blocks, dust, side).is_some_and(is)))
+    arms_by(|side| inferred(blocks, dust, side).filter(|_| !beside(blocks, dust, side).is_some_and(is)))
 }
 
 fn drawn_unless(profile: &[u8], rows: &mut [Packed], is: fn(&Row) -> bool) -> u32 {
@@ -438,7 +434,7 @@ fn powered_after(profile: &[u8], rows: &mut [Packed], change: fn(Option<bool>) -
 fn led_back(blocks: &Blocks, dust: &Row) -> Arms {
     arms_by(|side| {
         let leads_back = |block: &Row| !is_dust(block) || entry(block, opposite(side)) != Some(Arm::None);
-        arm(blocks, dust, side).filter(|_| beside(blocks, dust, side).is_none_or(leads_back))
+        inferred(blocks, dust, side).filter(|_| beside(blocks, dust, side).is_none_or(leads_back))
     })
 }
 

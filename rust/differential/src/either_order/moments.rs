@@ -1,8 +1,8 @@
 //! Redraws among switches, at any moment.
 
-use super::generated::{any_place, any_power, with_arms};
+use super::generated::{any_place, any_power};
 use super::{Calls, Switch, redrawn_case, switched_case};
-use crate::generate::{self, Case};
+use crate::generate::{self, Case, with_arms};
 use crate::random::Random;
 use crate::table;
 

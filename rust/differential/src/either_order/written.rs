@@ -2,11 +2,11 @@
 
 use std::collections::BTreeSet;
 
-use redstone::{Arm, Facing, Row};
+use redstone::{Arm, Row};
 
-use super::reading::{Arms, is_dust};
 use super::trials::POWERS;
 use super::{Stored, Switch, Trial, stored};
+use crate::dust::{Arms, is_dust};
 use crate::generate::Case;
 use crate::table::{ABOVE, HORIZONTAL, Position, UNDER, moved};
 use crate::written;
@@ -52,23 +52,9 @@ type Drawn = (Row, Option<Stored>);
 /// So many quarter turns, by which the North comes to the East.
 fn turned((row, drawn): Drawn, turns: usize) -> Drawn {
     (0..turns).fold((row, drawn), |(row, drawn), _| {
-        let [x, y, z] = row.position();
-        let support = row.support().map(|[x, y, z]| [-z, y, x]);
-        let arms = row.arms().map(|[north, east, south, west]| [west, north, east, south]);
-        let row = row.with_position([-z, y, x]).with_support(support).with_arms(arms);
         let drawn = drawn.map(|[is_stored, north, east, south, west]| [is_stored, west, north, east, south]);
-        (row.with_facing(row.facing().map(turned_facing)), drawn)
+        (written::turned(&row), drawn)
     })
-}
-
-fn turned_facing(facing: Facing) -> Facing {
-    match facing {
-        Facing::North => Facing::East,
-        Facing::East => Facing::South,
-        Facing::South => Facing::West,
-        Facing::West => Facing::North,
-        vertical => vertical,
-    }
 }
 
 /// The rows in the table's order, with these arms in the dust that has none.
