@@ -62,3 +62,12 @@ pub fn fill(column: &mut [u16], number: u16)
         column[i] = number;
     }
 }
+
+// Writes 0 to every byte.
+pub fn zeros(bytes: &mut [u8])
+    ensures { λ _. ⌜ now (bytes .exit) ≡ tabulate (length (now (bytes .entry))) (λ _. 0) ⌝ }
+{
+    for i in 0..bytes.len() {
+        bytes[i] = 0;
+    }
+}

@@ -8,6 +8,8 @@ use lib.Dec.{eqb}
 use Rattle.network.specs.Network.{Network}
 use Rattle.network.specs.Settled.{roundsOf, settled}
 use Rattle.network.specs.Computing.{computing}
+use Rattle.network.specs.Laws.Loop.{unmapped}
+use Rattle.network.specs.Laws.Keys.{roundsBy, lastDust, lastWeak}
 
 -- the pairs of rows (a, b) and (c, d)
 pairs : ℕ → ℕ → ℕ → ℕ → ℕ → ℕ → Bool
@@ -43,3 +45,8 @@ signals = refl
 weak : settled line emits .weak ≡ 0 ∷ 15 ∷ 0 ∷ 14 ∷ 0 ∷ []
 unfolding computing line emits
 weak = refl
+
+-- the keys 240 and 223 give the same number
+keyed : roundsBy line emits (0 ∷ 0 ∷ 240 ∷ 0 ∷ 223 ∷ []) ≡ 4
+unfolding computing line emits roundsBy lastDust lastWeak unmapped pairs
+keyed = refl

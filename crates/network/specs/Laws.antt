@@ -8,3 +8,5 @@ pub mod Join
 pub mod Gather
 pub mod Map
 pub mod Loop
+pub mod SameEdges
+pub mod Keys

@@ -47,7 +47,7 @@ sum-exact a d h = clamp-exact (a +ℤ d) h
 pub satAdd-exact : (a d : ℤ) → mag a ≤ 2000000 → mag d ≤ 2 → satAdd a d ≡ a +ℤ d
 satAdd-exact a d g h = sum-exact a d (omega (arith, mag-sum a d))
 
-satAdd-none : (a : ℤ) → mag a ≤ 2000000 → satAdd a zeroZ ≡ a
+pub satAdd-none : (a : ℤ) → mag a ≤ 2000000 → satAdd a zeroZ ≡ a
 satAdd-none a h = satAdd-exact a zeroZ h (omega arith) ∙ +ℤ-idr a
 
 mag-satAdd : (a d : ℤ) → mag a ≤ 2000000 → mag d ≤ 2 → mag (satAdd a d) ≤ mag a + 3

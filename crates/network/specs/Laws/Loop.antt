@@ -18,7 +18,7 @@ use Rattle.network.specs.Compare.{PowerOnMap}
 use Rattle.network.specs.Demand.{rounds-first, rounds-are}
 use Rattle.network.specs.Laws.States.{one-state}
 use Rattle.network.specs.Laws.FirstAnswering.{none-yet, none-more}
-use Rattle.network.specs.Laws.Map.{strongOf-off}
+use Rattle.network.specs.Laws.Map.{strongOf-off, weakOf-off}
 
 -- ---- the map
 
@@ -57,15 +57,21 @@ module _ (N : Network) (o : PowerOnMap N) (e : Column) where
       is-tabulate (strongOf N e) (N .size) (λ i. 0) (length-tabulate (N .size) 0 _)
       (λ i l. strongOf-off N o i (none-mapped N (same-true _ _ b) i l) e)
 
+  pub weak-unmapped : unmapped N ≡ true → (g s : Column) → weakOf N g s ≡ emptyMap N
+  unfolding unmapped emptyMap weakOf
+  weak-unmapped b g s =
+      is-tabulate (weakOf N g s) (N .size) (λ i. 0) (length-tabulate (N .size) 0 _)
+      (λ i l. weakOf-off N o i (none-mapped N (same-true _ _ b) i l) g s)
+
   -- round k + 1 answers where signals and weak power repeat, and the map does: some round was before, or it is empty
-  answers-when : (k : ℕ) → after N e (suc k) .signal ≡ after N e k .signal → after N e (suc k) .weak ≡ after N e k .weak
+  pub answers-when : (k : ℕ) → after N e (suc k) .signal ≡ after N e k .signal → after N e (suc k) .weak ≡ after N e k .weak
       → (ltb 0 k || unmapped N) ≡ true → Answers N e (suc k)
   unfolding after start round unmapped
   answers-when zero p q b = one-state p (same-true _ _ b) q (strong-unmapped b)
   answers-when (suc k) p q b = one-state p refl q refl
 
   -- and only there
-  answers-map : (k : ℕ) → Answers N e (suc k) → (ltb 0 k || unmapped N) ≡ true
+  pub answers-map : (k : ℕ) → Answers N e (suc k) → (ltb 0 k || unmapped N) ≡ true
   unfolding after start round unmapped
   answers-map zero a = let p : onMapOf N ≡ emptyMap N = ap (λ t. t .onMap) a in rw p (same-refl (emptyMap N))
   answers-map (suc k) a = rw (lt-ltb 0 (suc k) (omega arith))
