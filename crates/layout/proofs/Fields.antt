@@ -184,6 +184,10 @@ module _ (t : Bytes) (i : ℕ) where
   pub part-place : posOf (part 32 t i) 0 ≡ posOf t i
   part-place = same-place t (part 32 t i) i 0 (λ k l. part-byte (0 + k) (omega arith))
 
+  -- it is good where it is good there
+  pub part-good : goodRow (part 32 t i) 0 ≡ goodRow t i
+  part-good = good-same t (part 32 t i) i 0 part-byte
+
 -- ---- a row that agrees with a good one outside the bytes that `changed` names
 
 -- a byte of the field is changed

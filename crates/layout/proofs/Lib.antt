@@ -2,3 +2,4 @@
 pub mod Fields
 pub mod Profiles
 pub mod Rows
+pub mod Offset

@@ -4,11 +4,12 @@ use blocks::PROFILE_BYTES_WITH_BULB;
 use blocks::kind;
 use columns::byte_at;
 use places::Pos;
-use world::row::byte_of;
 ghost use mathlib.Core.Path.{_≡_};
-ghost use Prim.Native.Nat.{_<_};
+ghost use Prim.Native.Nat.{_+_, _*_, _%_};
+ghost use lib.ListN.{length};
+ghost use lib.Dec.{leb};
 ghost use lib.IntN.{ℤ};
-ghost use Rattle.layout.specs.Good.{mostOf, lowBytes, goodProfile, inRange, goodPlace, goodKind, goodValue, isUnit, goodSupport, goodArms, goodTail, goodRow};
+ghost use Rattle.layout.specs.Good.{mostOf, lowBytes, goodProfile, inRange, goodPlace, goodKind, goodValue, goodSupport, goodArms, goodTail, goodRow};
 
 // The sum of all values of a kind; the torch has one value more.
 const ALL: u8 = 31;
@@ -61,72 +62,68 @@ pub fn good_place(q: Pos) -> bool
     in_range(q.x) & in_range(q.y) & in_range(q.z)
 }
 
-fn good_kind(table: &[u8], row: usize) -> bool
-    ensures { λ r. ⌜ r ≡ goodKind (now (table .entry)) row ⌝ }
+fn good_kind(row: &[u8]) -> bool
+    requires { ⌜ length (now row) ≡ 32 ⌝ }
+    ensures { λ r. ⌜ r ≡ goodKind (now (row .entry)) 0 ⌝ }
 {
-    (1 <= byte_of(table, row, 12))
-        & (byte_of(table, row, 12) <= kind::COPPER_BULB)
-        & (byte_of(table, row, 13) <= 6)
-        & (byte_of(table, row, 14) <= 2)
+    (1 <= row[12]) & (row[12] <= kind::COPPER_BULB) & (row[13] <= 6) & (row[14] <= 2)
 }
 
-// A value that is given or not, in the two bytes from b on.
-fn good_value(table: &[u8], row: usize, b: usize) -> bool
-    requires { ⌜ b < 31 ⌝ }
-    ensures { λ r. ⌜ r ≡ goodValue (now (table .entry)) row b ⌝ }
+fn good_level(row: &[u8]) -> bool
+    requires { ⌜ length (now row) ≡ 32 ⌝ }
+    ensures { λ r. ⌜ r ≡ goodValue (now (row .entry)) 0 15 ⌝ }
 {
-    ((byte_of(table, row, b) == 0) & (byte_of(table, row, b + 1) == 0))
-        | (byte_of(table, row, b) == 1)
+    ((row[15] == 0) & (row[16] == 0)) | (row[15] == 1)
 }
 
-// -1, 0 or 1 as a signed byte.
-fn is_unit(b: u8) -> bool
-    ensures { λ r. ⌜ r ≡ isUnit b ⌝ }
+fn good_delay(row: &[u8]) -> bool
+    requires { ⌜ length (now row) ≡ 32 ⌝ }
+    ensures { λ r. ⌜ r ≡ goodValue (now (row .entry)) 0 17 ⌝ }
 {
-    (b <= 1) | (b == 255)
+    ((row[17] == 0) & (row[18] == 0)) | (row[17] == 1)
 }
 
-fn good_support(table: &[u8], row: usize) -> bool
-    ensures { λ r. ⌜ r ≡ goodSupport (now (table .entry)) row ⌝ }
+// Whether a byte of the support's offset is 0 where none is given, and -1, 0 or 1 where one is: where `given` is 0 or 1, one test for both.
+fn is_offset(given: u8, d: u8) -> bool
+    ensures { λ r. ⌜ r ≡ leb ((d + given) % 256) (2 * given) ⌝ }
 {
-    let given = byte_of(table, row, 19);
-    let dx = byte_of(table, row, 20);
-    let dy = byte_of(table, row, 21);
-    let dz = byte_of(table, row, 22);
-    ((given == 0) & ((dx == 0) & (dy == 0) & (dz == 0)))
-        | ((given == 1) & (is_unit(dx) & is_unit(dy) & is_unit(dz)))
+    (d as u32 + given as u32) % 256 <= 2 * (given as u32)
 }
 
-fn good_arms(table: &[u8], row: usize) -> bool
-    ensures { λ r. ⌜ r ≡ goodArms (now (table .entry)) row ⌝ }
+fn good_support(row: &[u8]) -> bool
+    requires { ⌜ length (now row) ≡ 32 ⌝ }
+    ensures { λ r. ⌜ r ≡ goodSupport (now (row .entry)) 0 ⌝ }
 {
-    let stored = byte_of(table, row, 23);
-    let north = byte_of(table, row, 24);
-    let east = byte_of(table, row, 25);
-    let south = byte_of(table, row, 26);
-    let west = byte_of(table, row, 27);
-    ((stored == 0) & ((north == 0) & (east == 0) & (south == 0) & (west == 0)))
-        | ((stored == 1) & ((north <= 3) & (east <= 3) & (south <= 3) & (west <= 3)))
+    let given = row[19];
+    (given <= 1)
+        & (is_offset(given, row[20]) & is_offset(given, row[21]) & is_offset(given, row[22]))
 }
 
-fn good_tail(table: &[u8], row: usize) -> bool
-    ensures { λ r. ⌜ r ≡ goodTail (now (table .entry)) row ⌝ }
+fn good_arms(row: &[u8]) -> bool
+    requires { ⌜ length (now row) ≡ 32 ⌝ }
+    ensures { λ r. ⌜ r ≡ goodArms (now (row .entry)) 0 ⌝ }
 {
-    (byte_of(table, row, 28) <= 6)
-        & (byte_of(table, row, 29) <= 1)
-        & (byte_of(table, row, 30) == 0)
-        & (byte_of(table, row, 31) == 0)
+    ((row[23] == 0) & ((row[24] == 0) & (row[25] == 0) & (row[26] == 0) & (row[27] == 0)))
+        | ((row[23] == 1) & ((row[24] <= 3) & (row[25] <= 3) & (row[26] <= 3) & (row[27] <= 3)))
 }
 
-// Whether each field of a row is within the layout.
-pub fn good_row(table: &[u8], row: usize) -> bool
-    ensures { λ r. ⌜ r ≡ goodRow (now (table .entry)) row ⌝ }
+fn good_tail(row: &[u8]) -> bool
+    requires { ⌜ length (now row) ≡ 32 ⌝ }
+    ensures { λ r. ⌜ r ≡ goodTail (now (row .entry)) 0 ⌝ }
 {
-    good_place(world::row::pos_of(table, row))
-        & good_kind(table, row)
-        & good_value(table, row, 15)
-        & good_value(table, row, 17)
-        & good_support(table, row)
-        & good_arms(table, row)
-        & good_tail(table, row)
+    (row[28] <= 6) & (row[29] <= 1) & (row[30] == 0) & (row[31] == 0)
+}
+
+// Whether each field of a row, which is lent by itself, is within the layout.
+pub fn good_row(row: &[u8]) -> bool
+    requires { ⌜ length (now row) ≡ 32 ⌝ }
+    ensures { λ r. ⌜ r ≡ goodRow (now (row .entry)) 0 ⌝ }
+{
+    good_place(world::row::pos_in(row))
+        & good_kind(row)
+        & good_level(row)
+        & good_delay(row)
+        & good_support(row)
+        & good_arms(row)
+        & good_tail(row)
 }

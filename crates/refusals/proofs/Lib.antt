@@ -1,5 +1,6 @@
 -- Laws of accepted tables, and of answers.
 pub mod Passed
+pub mod Lent
 pub mod Accepted
 pub mod Again
 pub mod Gives

@@ -3,7 +3,7 @@
 use mathlib.Core.Path.{_≡_, refl, sym}
 use mathlib.Core.Bool.{Bool, true, false, not}
 use Prim.Native.Nat.{ℕ, _+_, _≤_, _<_}
-use native.Mathlib.Nat.{add-zero}
+use native.Mathlib.Nat.{add-zero, zero-add}
 use native.Mathlib.Omega.{arith}
 use borrow.Author.Tests.{ltb-false, le-ltb}
 use Rattle.columns.specs.declared.Found.{Found}
@@ -85,6 +85,15 @@ or-assoc (Refused m i) b c = refl
 pub refuse-only : (m n : ℕ) (b : Bool) (next : Checked) → refuseAt m 0 (foundIf b n Nothing) next ≡ refuseRowUnless m n (not b) next
 refuse-only m n true next = rw (add-zero n) refl
 refuse-only m n false next = refl
+
+-- a test of the one row of a table, n rows on
+pub refuse-one : (m n : ℕ) (f : ℕ → Bool) (next : Checked) → refuseAt m n (firstFrom f 1 0) next ≡ refuseRowUnless m n (not (f 0)) next
+unfolding firstFrom
+refuse-one m n f next = go (f 0)
+  where
+    go : (b : Bool) → refuseAt m n (foundIf b 0 Nothing) next ≡ refuseRowUnless m n (not b) next
+    go true = rw (zero-add n) refl
+    go false = refl
 
 -- a test, and those that come next
 row-unless-else : (n i : ℕ) (b : Bool) (c next : Checked) → refuseRowUnless n i b (orElse c next) ≡ orElse (refuseRowUnless n i b c) next

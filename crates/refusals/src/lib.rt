@@ -1,6 +1,6 @@
 // The refusals: which of them falls on the inputs of a call, and the number that the call answers then.
-pub mod row;
-mod scan;
+mod row;
+pub mod scan;
 
 use columns::Found;
 ghost use mathlib.Core.Path.{_≡_};

@@ -3,9 +3,10 @@ use places::Facing;
 use places::Place;
 use places::Pos;
 ghost use mathlib.Core.Path.{_≡_};
-ghost use Prim.Native.Nat.{_+_, _*_, _<_};
-ghost use lib.ListN.{getD};
+ghost use Prim.Native.Nat.{_+_, _*_, _≤_, _<_};
+ghost use lib.ListN.{length, getD};
 ghost use lib.IntN.{ℤ};
+ghost use Rattle.places.specs.Places.{cell};
 ghost use Rattle.places.specs.Signed.{signed32, signed8};
 ghost use Rattle.world.specs.Rows.{rows, byteOf, givenOr, wordOf, posOf, kindOf, facingOf, poweredOf, isPowered, levelOr, delayOr, supportOf, hasStoredArms, armEntry, storedArm, shapeOf, isSubtract};
 
@@ -77,15 +78,38 @@ pub fn x_of(table: &[u8], row: usize) -> i32
     signed(word_of(table, row, 0))
 }
 
+// The position whose coordinates have these bits.
+fn pos_with(x: u32, y: u32, z: u32) -> Pos
+    ensures { λ r. ⌜ r ≡ cell (signed32 x) (signed32 y) (signed32 z) ⌝ }
+{
+    Pos::new(signed(x), signed(y), signed(z))
+}
+
 // The position of a row.
 pub fn pos_of(table: &[u8], row: usize) -> Pos
     ensures { λ r. ⌜ r ≡ posOf (now (table .entry)) row ⌝ }
 {
-    Pos::new(
-        signed(word_of(table, row, 0)),
-        signed(word_of(table, row, 4)),
-        signed(word_of(table, row, 8)),
+    pos_with(
+        word_of(table, row, 0),
+        word_of(table, row, 4),
+        word_of(table, row, 8),
     )
+}
+
+// The four bytes from byte b on of a row that is lent by itself.
+fn word_in(row: &[u8], b: usize) -> u32
+    requires { ⌜ b + 4 ≤ length (now row) ⌝ }
+    ensures { λ r. ⌜ r ≡ getD (now (row .entry)) b 0 + getD (now (row .entry)) (b + 1) 0 * 256 + getD (now (row .entry)) (b + 2) 0 * 65536 + getD (now (row .entry)) (b + 3) 0 * 16777216 ⌝ }
+{
+    wide(row[b]) + wide(row[b + 1]) * 256 + wide(row[b + 2]) * 65536 + wide(row[b + 3]) * 16777216
+}
+
+// The position of a row that is lent by itself.
+pub fn pos_in(row: &[u8]) -> Pos
+    requires { ⌜ length (now row) ≡ 32 ⌝ }
+    ensures { λ r. ⌜ r ≡ posOf (now (row .entry)) 0 ⌝ }
+{
+    pos_with(word_in(row, 0), word_in(row, 4), word_in(row, 8))
 }
 
 pub fn kind_of(table: &[u8], row: usize) -> u8

@@ -4,8 +4,8 @@ use borrow.Author.Needs.{needs}
 use Rattle.layout.proofs.good_row.Statement.{statement}
 use Rattle.layout.proofs.good_row.Tie as tie
 
-pos-of-requires : tie.Need-pos-of-requires
-pos-of-requires c κs = search needs
+pos-in-requires : tie.Need-pos-in-requires
+pos-in-requires c κs = search needs
 
 good-place-requires : tie.Need-good-place-requires
 good-place-requires c κs = search needs
@@ -13,11 +13,11 @@ good-place-requires c κs = search needs
 good-kind-requires : tie.Need-good-kind-requires
 good-kind-requires c κs = search needs
 
-good-value-requires : tie.Need-good-value-requires
-good-value-requires c κs = search needs
+good-level-requires : tie.Need-good-level-requires
+good-level-requires c κs = search needs
 
-good-value-requires-2 : tie.Need-good-value-requires-2
-good-value-requires-2 c κs = search needs
+good-delay-requires : tie.Need-good-delay-requires
+good-delay-requires c κs = search needs
 
 good-support-requires : tie.Need-good-support-requires
 good-support-requires c κs = search needs
@@ -36,11 +36,11 @@ pub good-row-spec : {M : Type 1} → statement M
 good-row-spec =
     tie.close
     (tie.spec
-    pos-of-requires
+    pos-in-requires
     good-place-requires
     good-kind-requires
-    good-value-requires
-    good-value-requires-2
+    good-level-requires
+    good-delay-requires
     good-support-requires
     good-arms-requires
     good-tail-requires
