@@ -1,0 +1,4 @@
+pub mod Class
+pub mod Circuit
+pub mod Sinks
+pub mod Spread

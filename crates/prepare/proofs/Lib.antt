@@ -1,0 +1,10 @@
+pub mod Decoded
+pub mod Rows
+pub mod Sinks
+pub mod Along
+pub mod Arms
+pub mod Steps
+pub mod Blocks
+pub mod Dust
+pub mod Transmits
+pub mod Table
