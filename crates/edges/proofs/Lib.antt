@@ -1,4 +1,3 @@
-pub mod Apart
 pub mod Networks
 pub mod Profiles
 pub mod Torches

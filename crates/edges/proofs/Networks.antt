@@ -37,7 +37,7 @@ power-on-map arm p t =
 pub record SameArms (a b : ℕ → ℕ → ℕ) (t : Bytes) : Type 0 where
   pub at : (i : ℕ) → isDust (kindOf t i) ≡ true → (f : ℕ) → isHorizontal f ≡ true → a i f ≡ b i f
 
-and-same : (c : Bool) {x y : Bool} → (c ≡ true → x ≡ y) → (c && x) ≡ (c && y)
+pub and-same : (c : Bool) {x y : Bool} → (c ≡ true → x ≡ y) → (c && x) ≡ (c && y)
 and-same true h = h refl
 and-same false h = refl
 

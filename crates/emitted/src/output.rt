@@ -4,9 +4,11 @@ use levels::signal::Signal;
 use world::row;
 ghost use mathlib.Core.Path.{_≡_};
 ghost use mathlib.Core.Bool.{cond};
+ghost use lib.ListN.{length};
 ghost use lib.Dec.{eqb};
 ghost use Rattle.columns.specs.Signal.{maxSignal};
-ghost use Rattle.emitted.specs.Emitted.{switchLevel, emittedLevel};
+ghost use Rattle.world.specs.Rows.{rows};
+ghost use Rattle.emitted.specs.Emitted.{switchLevel, emittedLevel, emitted};
 
 // The level of a lever, button or plate: 15 where it is on and gives none.
 fn switch_level(table: &[u8], row: usize) -> u8
@@ -39,5 +41,15 @@ pub fn component_output_level(table: &[u8], row: usize, device: u8) -> u8
         kind::REDSTONE_TORCH | kind::REPEATER => lit_level(device),
         kind::COMPARATOR => device,
         _ => 0,
+    }
+}
+
+// The level that each row emits.
+pub fn fill_emitted(table: &[u8], devices: &[u8], out: &mut [u8])
+    requires { ⌜ length (now out) ≡ rows (now table) ⌝ }
+    ensures { λ _. ⌜ now (out .exit) ≡ emitted (now (table .entry)) (now (devices .entry)) ⌝ }
+{
+    for i in 0..out.len() {
+        out[i] = component_output_level(table, i, columns::byte_at(devices, i));
     }
 }

@@ -1,31 +1,39 @@
 // The feeder list of a table: for each row twelve entries, the numbers of the rows of dust that transmits into it, rising, then 65,535. The twelve
-// positions around a dust are looked up in the table's order, so that the numbers found are in rising order.
+// positions around a dust are looked at in the table's order, so that the numbers found are in rising order.
+mod around;
+
+use crate::around::feeder_at;
+use circuit::class::is_dust_in;
+use circuit::sinks::NO_ROW;
+use circuit::sinks::class_at;
 use columns::fill;
-use gather::slots::NO_ROW;
-use gather::slots::feeder_at;
+use prepare::prepare;
 use refusals::Checked;
 use world::row::rows;
 ghost use mathlib.Core.Path.{_≡_};
 ghost use Prim.Native.Nat.{_*_, _<_};
 ghost use lib.ListN.{length};
 ghost use borrow.Rule.Slice.PartMut.{putMid};
+ghost use Rattle.columns.specs.Column.{concatRows, atFront};
 ghost use Rattle.world.specs.Rows.{rows as rowsOf};
 ghost use Rattle.refusals.specs.Accepted.{Table};
-ghost use Rattle.feeding.specs.Feeders.{feederEntries, feederList, isListLength};
+ghost use Rattle.circuit.specs.Circuit.{places, Shaped};
+ghost use Rattle.feeding.specs.Feeders.{feederList, isListLength};
+ghost use Rattle.feeding.specs.Around.{rowsAmong, feederIn, entriesIn};
 ghost use Rattle.feeders.specs.Feeds.{checkFeeders, Feeds};
 
 // How many entries a row has.
 const ENTRIES: usize = 12;
 
-// Writes the entries of a row.
-fn write_entries(profile: &[u8], table: &[u8], row: usize, entries: &mut [u16])
-    requires { ⌜ Table (now table) × (row < rowsOf (now table)) × (length (now entries) ≡ 12) ⌝ }
-    ensures { λ _. ⌜ now (entries .exit) ≡ feederEntries (now (profile .entry)) (now (table .entry)) row ⌝ }
+// Writes the feeders of a row to the front of its entries.
+fn list_feeders(near: &[u16], class: &[u32], row: usize, entries: &mut [u16])
+    requires { ⌜ Shaped (now near) (now class) ⌝ }
+    requires { ⌜ length (now entries) ≡ 12 ⌝ }
+    ensures { λ _. ⌜ now (entries .exit) ≡ atFront (rowsAmong (feederIn (now (near .entry)) (now (class .entry)) row) 12) (now (entries .entry)) ⌝ }
 {
-    fill(entries, NO_ROW);
     let mut count = 0;
     for k in 0..ENTRIES {
-        let feeder = feeder_at(profile, table, row, k as u8);
+        let feeder = feeder_at(near, class, row, k);
         if feeder != NO_ROW {
             entries[count] = feeder;
             count += 1;
@@ -33,23 +41,57 @@ fn write_entries(profile: &[u8], table: &[u8], row: usize, entries: &mut [u16])
     }
 }
 
+// Writes the entries of a row. Nothing but dust has feeders.
+fn write_entries(near: &[u16], class: &[u32], row: usize, entries: &mut [u16])
+    requires { ⌜ Shaped (now near) (now class) ⌝ }
+    requires { ⌜ length (now entries) ≡ 12 ⌝ }
+    ensures { λ _. ⌜ now (entries .exit) ≡ entriesIn (now (near .entry)) (now (class .entry)) row ⌝ }
+{
+    fill(entries, NO_ROW);
+    if is_dust_in(class_at(class, row)) {
+        list_feeders(near, class, row, entries);
+    }
+}
+
 // Writes the entries of a row over those in a list.
-pub fn write_row(profile: &[u8], table: &[u8], row: usize, list: &mut [u16])
-    requires { ⌜ Table (now table) × (row < rowsOf (now table)) × (length (now list) ≡ rowsOf (now table) * 12) ⌝ }
-    ensures { λ _. ⌜ now (list .exit) ≡ putMid (row * 12) 12 (now (list .entry)) (feederEntries (now (profile .entry)) (now (table .entry)) row) ⌝ }
+pub fn write_row(near: &[u16], class: &[u32], row: usize, list: &mut [u16])
+    requires { ⌜ Shaped (now near) (now class) ⌝ }
+    requires { ⌜ (row < length (now class)) × (length (now list) ≡ length (now class) * 12) ⌝ }
+    ensures { λ _. ⌜ now (list .exit) ≡ putMid (row * 12) 12 (now (list .entry)) (entriesIn (now (near .entry)) (now (class .entry)) row) ⌝ }
 {
     let start = row * ENTRIES;
-    write_entries(profile, table, row, &mut list[start..start + ENTRIES]);
+    write_entries(near, class, row, &mut list[start..start + ENTRIES]);
 }
 
 // Writes the entries of every row.
-fn write_list(profile: &[u8], table: &[u8], list: &mut [u16])
+fn write_list(near: &[u16], class: &[u32], list: &mut [u16])
+    requires { ⌜ Shaped (now near) (now class) ⌝ }
+    requires { ⌜ length (now list) ≡ length (now class) * 12 ⌝ }
+    ensures { λ _. ⌜ now (list .exit) ≡ concatRows (length (now (class .entry))) (entriesIn (now (near .entry)) (now (class .entry))) ⌝ }
+{
+    for i in 0..class.len() {
+        write_row(near, class, i, list);
+    }
+}
+
+// Writes the feeder list of a table, with room for its columns.
+fn write_in(profile: &[u8], table: &[u8], near: &mut [u16], class: &mut [u32], list: &mut [u16])
+    requires { ⌜ Table (now table) × (length (now near) ≡ places * rowsOf (now table)) × (length (now class) ≡ rowsOf (now table)) × (length (now list) ≡ rowsOf (now table) * 12) ⌝ }
+    ensures { λ _. ⌜ now (list .exit) ≡ feederList (now (profile .entry)) (now (table .entry)) ⌝ }
+{
+    prepare(profile, table, near, class);
+    write_list(near, class, list);
+}
+
+// Writes the feeder list of a table.
+fn write_table(profile: &[u8], table: &[u8], list: &mut [u16])
     requires { ⌜ Table (now table) × (length (now list) ≡ rowsOf (now table) * 12) ⌝ }
     ensures { λ _. ⌜ now (list .exit) ≡ feederList (now (profile .entry)) (now (table .entry)) ⌝ }
 {
-    for i in 0..rows(table) {
-        write_row(profile, table, i, list);
-    }
+    let mut near = [0u16; 7168];
+    let mut class = [0u32; 1024];
+    let n = rows(table);
+    write_in(profile, table, &mut near[0..7 * n], &mut class[0..n], list);
 }
 
 // Whether a list of so many entries has twelve for each row.
@@ -78,6 +120,6 @@ pub fn feeders(profile: &[u8], table: &[u8], list: &mut [u16]) -> u32
     if let Checked::Refused { number: _, row: _ } = checked {
         return refusals::answer(checked, 0);
     }
-    write_list(profile, table, list);
+    write_table(profile, table, list);
     rows(table) as u32
 }

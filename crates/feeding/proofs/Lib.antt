@@ -1,5 +1,7 @@
 -- Laws of the feeder list.
-pub mod Walked
+pub mod Rising
+pub mod Positions
+pub mod Around
 pub mod Listed
 pub mod Replacing
 pub mod Updated

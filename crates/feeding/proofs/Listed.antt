@@ -3,19 +3,18 @@
 -- Assumes nothing.
 use mathlib.Core.Path.{_≡_, ap, sym, _∙_}
 use mathlib.Core.Logic.{_⊎_, inl, inr, by-cases}
-use mathlib.Core.Bool.{Bool, true, false, true≢false}
+use mathlib.Core.Bool.{true, false, true≢false}
 use mathlib.Core.List.{List·Memᴰ}
 use Prim.Native.Nat.{ℕ, _+_, _*_, _-_, _≤_, _<_}
 use native.Mathlib.Decide.{decLt}
 use native.Mathlib.Omega.{arith}
 use lib.ListN.{length, getD, drop, replicate, length-append, length-drop, length-replicate, getD-replicate, List·getD-append}
 use lib.Seq.{getD-append-add, getD-drop}
-use Rattle.columns.specs.Column.{Bytes, row, part, concatRows, atFront}
+use Rattle.columns.specs.Column.{Bytes, Column, row, part, concatRows, atFront}
 use Rattle.columns.proofs.Truth.{refuted}
 use Rattle.columns.proofs.Indices.{StandsIn, index-kept, indices-rise, kept-index, indices-none, indices-same}
 use Rattle.columns.proofs.Parts.{length-concatRows, part-concatRows, concatRows-same, concatRows-at}
 use Rattle.blocks.specs.Kind.{isDust}
-use Rattle.places.specs.declared.Pos.{Pos}
 use Rattle.places.proofs.Steps.{around}
 use Rattle.world.specs.Rows.{rows, posOf, kindOf}
 use Rattle.refusals.specs.Accepted.{Table}
@@ -23,11 +22,14 @@ use Rattle.refusals.proofs.Accepted.{in-range}
 use Rattle.arms.specs.Arms.{armOf}
 use Rattle.wire.specs.Transfer.{transmits}
 use Rattle.wire.proofs.Around.{transmits-dust, transmits-around}
-use Rattle.gather.specs.Slots.{aroundAt}
-use Rattle.gather.proofs.Near.{transmits-near}
-use Rattle.gather.proofs.Rising.{around-rise}
-use Rattle.feeding.specs.Feeders.{noRow, feedersOf, feederEntries, feederList}
-use Rattle.feeding.proofs.Walked.{Ordered, walked-most}
+use Rattle.circuit.specs.Circuit.{noRow}
+use Rattle.adjacency.specs.Adjacency.{nearOf}
+use Rattle.prepare.specs.Classes.{classesOf}
+use Rattle.prepare.proofs.Rows.{length-classes}
+use Rattle.feeding.specs.Feeders.{feedersOf, feederEntries, feederList}
+use Rattle.feeding.specs.Around.{feederIn, entriesIn}
+use Rattle.feeding.proofs.Rising.{length-among}
+use Rattle.feeding.proofs.Around.{feeders-found}
 
 -- ---- of any table
 
@@ -61,21 +63,14 @@ feeder-around p t a j i g e = (transmits-dust (armOf p t) p t j i e .0, transmit
 -- ---- of an accepted one
 
 module _ (p t : Bytes) (a : Table t) (i : ℕ) (l : i < rows t) where
-  abbrev feeds : ℕ → Bool
-  feeds j = transmits p t j i
-
-  abbrev places : ℕ → Pos
-  places = aroundAt (posOf t i)
-
-  -- the rows that transmit into row i stand at the twelve positions around it
-  pub around-ordered : Ordered t feeds 12 places
-  around-ordered =
-      record { rise = around-rise (posOf t i) (in-range t a i l); near = λ j g. transmits-near (armOf p t) p t a j i g l }
-
   -- no more than twelve transmit into it
   pub feeders-most : length (feedersOf p t i) ≤ 12
-  unfolding feedersOf
-  feeders-most = walked-most a around-ordered
+  feeders-most = rw (← feeders-found p t a i l) (length-among (feederIn (nearOf t) (classesOf p t) i) 12)
+
+  -- the entries that are read off the columns
+  pub entries-found : entriesIn (nearOf t) (classesOf p t) i ≡ feederEntries p t i
+  unfolding entriesIn feederEntries
+  entries-found = ap (λ xs. atFront xs (replicate 12 noRow)) (feeders-found p t a i l)
 
   -- so that it has twelve entries:
   pub entries-twelve : length (feederEntries p t i) ≡ 12
@@ -118,6 +113,13 @@ module _ (p t : Bytes) (a : Table t) (i : ℕ) (l : i < rows t) where
 -- ---- the whole list
 
 module _ (p t : Bytes) (a : Table t) where
+  -- read off the columns
+  pub list-found : {near class : Column} → near ≡ nearOf t → class ≡ classesOf p t → concatRows (length class) (entriesIn near class) ≡ feederList p t
+  unfolding feederList
+  list-found e g =
+      rw (e, g, length-classes p t)
+      (concatRows-same (entriesIn (nearOf t) (classesOf p t)) (feederEntries p t) (rows t) (entries-found p t a))
+
   -- "twelve 16-bit entries per row"
   pub list-long : length (feederList p t) ≡ rows t * 12
   unfolding feederList

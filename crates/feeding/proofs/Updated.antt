@@ -12,7 +12,7 @@ use lib.IntN.{ℤ, pos, _+ℤ_}
 use lib.ListN.{length}
 use lib.Signed.{mag}
 use borrow.Author.Tests.{eq-eqb, eqb-false}
-use Rattle.columns.specs.Column.{Bytes, Column, row, part}
+use Rattle.columns.specs.Column.{Bytes, Column, row, part, concatRows}
 use Rattle.columns.proofs.Truth.{or-false}
 use Rattle.columns.proofs.Parts.{length-part, part-at, length-concatRows, concatRows-same, concatRows-at}
 use Rattle.blocks.specs.Kind.{isDust}
@@ -29,9 +29,12 @@ use Rattle.wire.proofs.Around.{transmits-around}
 use Rattle.wire.proofs.Same.{SameRow}
 use Rattle.wire.proofs.Alike.{same-stored}
 use Rattle.wire.proofs.Region.{AlikeOver, Holds, rows-alike, row-over, transmits-over}
+use Rattle.adjacency.specs.Adjacency.{nearOf}
+use Rattle.prepare.specs.Classes.{classesOf}
 use Rattle.feeding.specs.Feeders.{feederEntries, feederList}
 use Rattle.feeding.specs.Replaced.{replaced, atMostTwoApart, isNear, isRenewed, updatedEntries, updatedList}
-use Rattle.feeding.proofs.Listed.{not-dust, entries-twelve, list-part, entries-same}
+use Rattle.feeding.specs.Around.{updatedIn}
+use Rattle.feeding.proofs.Listed.{not-dust, entries-found, entries-twelve, list-part, entries-same}
 use Rattle.feeding.proofs.Replacing.{Replaceable, replaced-rows, other-byte, replaced-place}
 
 -- ---- at most two cells away
@@ -158,6 +161,15 @@ module _ (p t : Bytes) (a : Table t) (n : ℕ) (list : Column) (long : length li
   pub updated-long : length (updatedList p t n list) ≡ rows t * 12
   unfolding updatedList
   updated-long = length-concatRows 12 (updatedEntries p t n list) (rows t) updated-twelve
+
+  -- read off the columns
+  pub updated-found : {near class : Column} → near ≡ nearOf t → class ≡ classesOf p t
+      → concatRows (rows t) (updatedIn t near class n list) ≡ updatedList p t n list
+  unfolding updatedIn updatedList updatedEntries
+  updated-found e g =
+      rw (e, g)
+      (concatRows-same (updatedIn t (nearOf t) (classesOf p t) n list) (updatedEntries p t n list) (rows t)
+      (λ i l. ap (λ x. cond (isRenewed t n i) x (part 12 list i)) (entries-found p t a i l)))
 
   -- "that row's entries and those of dust at most two cells away on every axis are written afresh, all others are left as handed in"
   pub updated-at : (i k : ℕ) → i < rows t → k < 12

@@ -9,10 +9,7 @@ use Rattle.columns.specs.Column.{Bytes, concatRows, atFront}
 use Rattle.columns.specs.First.{indicesFrom}
 use Rattle.world.specs.Rows.{rows}
 use Rattle.wire.specs.Transfer.{transmits}
-
--- the entry that is no row's
-abbrev pub noRow : ℕ
-noRow = 65535
+use Rattle.circuit.specs.Circuit.{noRow}
 
 module _ (p t : Bytes) (i : ℕ) where
   -- "the row numbers of all dust that transmits into it, in rising order"

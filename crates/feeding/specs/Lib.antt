@@ -1,2 +1,3 @@
 pub mod Feeders
 pub mod Replaced
+pub mod Around

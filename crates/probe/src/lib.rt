@@ -14,6 +14,7 @@ ghost use Rattle.supports.specs.Supports.{Listed};
 ghost use Rattle.arms.specs.Arms.{componentConnects, inferWireConnection, resolvedWireConnection};
 ghost use Rattle.wire.specs.Transfer.{dustTransfer, transferNumber};
 ghost use Rattle.redraw.specs.Redraw.{Redraws};
+ghost use Rattle.electrical.specs.Answer.{Settles};
 ghost use Rattle.probe.specs.Numbers.{rowNumber, kindProperties, traitsNumber, coordinate, placeCoordinate, knownFacing, isThere, portOf, bit};
 
 // 0, or the refusal that falls on a profile and a table.
@@ -176,4 +177,20 @@ pub extern "C" fn probe_redraw(profile: &[u8], table: &mut [u8]) -> u32
     ensures { λ r. ⌜ Redraws (now (profile .entry)) (now (table .entry)) (now (table .exit)) r ⌝ }
 {
     redraw::update_wire_shapes(profile, table)
+}
+
+// Settle, round by round.
+#[no_mangle]
+pub extern "C" fn probe_settle_by_rounds(
+    profile: &[u8],
+    table: &[u8],
+    devices: &[u8],
+    limit: u32,
+    signal: &mut [u8],
+    weak: &mut [u8],
+    strong: &mut [u8],
+) -> u32
+    ensures { λ r. ⌜ Settles (now (profile .entry)) (now (table .entry)) (now (devices .entry)) limit (now (signal .entry)) (now (weak .entry)) (now (strong .entry)) (now (signal .exit)) (now (weak .exit)) (now (strong .exit)) r ⌝ }
+{
+    solver::solve_by_rounds(profile, table, devices, limit, signal, weak, strong)
 }

@@ -26,9 +26,13 @@ unfoldable pub isRequested : Bytes → Bytes → Numbers → ℕ → Bool
 isRequested p t s i = not (eqb (onFound (repeaterInputLevel p t s) 0 (findAt t (inputOf t i))) 0)
 
 module _ (t : Bytes) (d : Column) (i : ℕ) where
-  -- a repeater or comparator at q outputs into row i and is on
+  -- row j is a repeater or comparator that outputs into row i, and is on
+  abbrev pub locks : ℕ → Bool
+  locks j = outputsTo t j i && not (eqb (row d j) 0)
+
+  -- one at q does
   unfoldable pub locksFrom : Pos → Bool
-  locksFrom q = onFound (λ j. outputsTo t j i && not (eqb (row d j) 0)) false (find t q)
+  locksFrom q = onFound locks false (find t q)
 
   abbrev pub lockedBy : Sides → Bool
   lockedBy (Both a b) = locksFrom a || locksFrom b

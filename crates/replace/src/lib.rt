@@ -3,9 +3,10 @@ use blocks::kind;
 use feeders::is_list_length;
 use feeders::write_row;
 use places::Pos;
+use prepare::prepare;
 use refusals::Checked;
-use refusals::row::is_bad;
-use refusals::row::is_overdriven;
+use refusals::scan::first_bad;
+use refusals::scan::first_overdriven;
 use subtables::put_row;
 use world::row;
 ghost use mathlib.Core.Path.{_≡_};
@@ -13,9 +14,12 @@ ghost use Prim.Native.Nat.{_*_, _<_};
 ghost use lib.ListN.{length};
 ghost use lib.IntN.{ℤ, pos, _+ℤ_};
 ghost use lib.Signed.{leZ};
+ghost use Rattle.columns.specs.Column.{concatRows};
 ghost use Rattle.world.specs.Rows.{rows};
 ghost use Rattle.refusals.specs.Accepted.{Table};
+ghost use Rattle.circuit.specs.Circuit.{places, Shaped};
 ghost use Rattle.feeding.specs.Replaced.{atMostTwoApart, isNear, isRenewed, updatedList};
+ghost use Rattle.feeding.specs.Around.{updatedIn};
 ghost use Rattle.replace.specs.Replace.{standsAtRow, checkNew, checkReplace, Replaces};
 
 // Whether a coordinate is at most two more than another.
@@ -51,16 +55,51 @@ fn is_renewed(table: &[u8], n: usize, i: usize) -> bool
     false
 }
 
-// Writes the entries of row n afresh, and those of dust at most two cells away, of the table after row n was replaced.
+// Writes the entries of row n afresh, and those of dust at most two cells away, by the columns of the table after row n was replaced.
+fn update_rows(table: &[u8], near: &[u16], class: &[u32], n: usize, list: &mut [u16])
+    requires { ⌜ Shaped (now near) (now class) ⌝ }
+    requires { ⌜ (length (now class) ≡ rows (now table)) × (length (now list) ≡ rows (now table) * 12) ⌝ }
+    ensures { λ _. ⌜ now (list .exit) ≡ concatRows (rows (now (table .entry))) (updatedIn (now (table .entry)) (now (near .entry)) (now (class .entry)) n (now (list .entry))) ⌝ }
+{
+    for i in 0..row::rows(table) {
+        if is_renewed(table, n, i) {
+            write_row(near, class, i, list);
+        }
+    }
+}
+
+// The same, with room for the columns.
+fn update_in(
+    profile: &[u8],
+    table: &[u8],
+    n: usize,
+    near: &mut [u16],
+    class: &mut [u32],
+    list: &mut [u16],
+)
+    requires { ⌜ Table (now table) × (length (now near) ≡ places * rows (now table)) × (length (now class) ≡ rows (now table)) × (length (now list) ≡ rows (now table) * 12) ⌝ }
+    ensures { λ _. ⌜ now (list .exit) ≡ updatedList (now (profile .entry)) (now (table .entry)) n (now (list .entry)) ⌝ }
+{
+    prepare(profile, table, near, class);
+    update_rows(table, near, class, n, list);
+}
+
+// The same, of the table after row n was replaced.
 fn update_list(profile: &[u8], table: &[u8], n: usize, list: &mut [u16])
     requires { ⌜ Table (now table) × (length (now list) ≡ rows (now table) * 12) ⌝ }
     ensures { λ _. ⌜ now (list .exit) ≡ updatedList (now (profile .entry)) (now (table .entry)) n (now (list .entry)) ⌝ }
 {
-    for i in 0..row::rows(table) {
-        if is_renewed(table, n, i) {
-            write_row(profile, table, i, list);
-        }
-    }
+    let mut near = [0u16; 7168];
+    let mut class = [0u32; 1024];
+    let count = row::rows(table);
+    update_in(
+        profile,
+        table,
+        n,
+        &mut near[0..7 * count],
+        &mut class[0..count],
+        list,
+    );
 }
 
 // Whether the new row stands where the row of this number does.
@@ -74,10 +113,12 @@ fn stands_at_row(table: &[u8], n: usize, new: &[u8]) -> bool
 fn check_new(kinds: usize, table: &[u8], n: u16, new: &[u8]) -> Checked
     ensures { λ r. ⌜ r ≡ checkNew kinds (now (table .entry)) n (now (new .entry)) ⌝ }
 {
-    let good = (new.len() == row::WIDTH) & !is_bad(kinds, new, 0);
-    let bad = refusals::refuse_row_unless(4, n, good);
+    if new.len() != row::WIDTH {
+        return Checked::Refused { number: 4, row: n };
+    }
+    let bad = refusals::refuse_at(4, first_bad(kinds, new, 1), n as usize);
     let misplaced = refusals::refuse_row_unless(5, n, stands_at_row(table, n as usize, new));
-    let overdriven = refusals::refuse_row_unless(10, n, !is_overdriven(new, 0));
+    let overdriven = refusals::refuse_at(10, first_overdriven(new, 1), n as usize);
     refusals::or_else(bad, refusals::or_else(misplaced, overdriven))
 }
 

@@ -1,26 +1,26 @@
--- A round over the columns that no round changes: emitted levels e, what arrives from them and from strong power, and the slots of the dust that feeds.
+-- A round over a network, with what settling takes from the emitted levels once.
 -- Assumes nothing.
 use mathlib.Core.Bool.{cond}
-use Prim.Native.Nat.{ℕ, _+_, _*_, _-_, min, max}
-use Rattle.columns.specs.Column.{Bytes, Column, row}
+use Prim.Native.Nat.{ℕ, _-_, min, max}
+use lib.ListN.{length}
+use Rattle.columns.specs.Column.{Column, row, tabulate}
 use Rattle.columns.specs.Signal.{maxSignal}
-use Rattle.network.specs.Levels.{top}
+use Rattle.network.specs.Levels.{arriving}
+use Rattle.network.specs.Network.{Network, signals}
 use Rattle.blocks.specs.Kind.{isDust}
-use Rattle.world.specs.Rows.{kindOf}
+use Rattle.circuit.specs.Class.{kindIn}
 
--- the largest level in the w slots from m on, of the signals s: an empty slot lies past their end
-unfoldable pub slotted : ℕ → Column → ℕ → Column → ℕ
-slotted w slots m s = top w (λ k. row s (row slots (m + k)))
+module _ (N : Network) where
+  open Network N using (size, dustToWeak, transmits)
 
--- the signal of row i in the next round
-unfoldable pub nextSignal : Bytes → Column → Column → Column → Column → ℕ → ℕ
-nextSignal t e direct feeders s i =
-    cond (isDust (kindOf t i)) (min maxSignal (max (slotted 12 feeders (i * 12) s - 1) (row direct i))) (row e i)
+  -- the signals of the next round, of the emitted levels e, the direct levels and the last signals s
+  unfoldable pub nextSignals : Column → Column → Column → Column
+  nextSignals e direct s = signals N e (λ i. min maxSignal (max (arriving size transmits (λ j. row s j - 1) i) (row direct i)))
 
--- the weak power of row i in the next round
-unfoldable pub nextWeak : Column → Column → Column → ℕ → ℕ
-nextWeak base unders s i = max (row base i) (slotted 5 unders (i * 5) s)
+  -- the weak power of the next round, of that which comes of strong power and the last signals s
+  unfoldable pub nextWeaks : Column → Column → Column
+  nextWeaks base s = tabulate size (λ i. max (row base i) (arriving size dustToWeak (row s) i))
 
--- "dust starts at 0"
-unfoldable pub firstSignal : Bytes → Column → ℕ → ℕ
-firstSignal t e i = cond (isDust (kindOf t i)) 0 (row e i)
+-- the signals of rows of these classes where the dust has the levels x: those of every network in columns with the classes
+unfoldable pub signalsIn : Column → Column → (ℕ → ℕ) → Column
+signalsIn class e x = tabulate (length class) (λ i. cond (isDust (kindIn (row class i))) (x i) (row e i))

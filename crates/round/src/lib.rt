@@ -1,135 +1,94 @@
-// One round, from the last signals alone, over the columns that no round changes. Its public functions require columns of lengths that fit:
-// `rounds` calls them, once a round.
-use blocks::kind;
-use columns::byte_at;
-use columns::larger;
+// One round, from the last signals alone, over a network in columns. Its public functions require columns of its length: `rounds` calls them, once a
+// round.
+use circuit::Edge;
+use circuit::class::is_dust_in;
+use circuit::spread::spread;
+use columns::copy;
 use columns::same;
+use columns::zeros;
 use levels::signal::Signal;
-use world::row::kind_of;
+use power::none_mapped;
 ghost use mathlib.Core.Path.{_≡_};
-ghost use Prim.Native.Nat.{_+_, _-_, _*_, _<_, _≤_};
+ghost use mathlib.Core.Bool.{cond};
+ghost use Prim.Native.Nat.{min};
 ghost use lib.ListN.{length};
-ghost use Rattle.columns.specs.Column.{row, tabulate};
+ghost use Rattle.columns.specs.Column.{row};
+ghost use Rattle.columns.specs.Signal.{maxSignal};
 ghost use Rattle.network.specs.Laws.Loop.{repeats};
-ghost use Rattle.round.specs.Round.{slotted, nextSignal, nextWeak, firstSignal};
+ghost use Rattle.blocks.specs.Kind.{isDust};
+ghost use Rattle.circuit.specs.Class.{kindIn};
+ghost use Rattle.circuit.specs.Circuit.{Shaped, circuit};
+ghost use Rattle.power.specs.Power.{noneMapped};
+ghost use Rattle.round.specs.Round.{nextSignals, nextWeaks, signalsIn};
 
-// The level that is left one cell on.
-fn less_one(x: u8) -> u8
-    ensures { λ r. ⌜ r ≡ x - 1 ⌝ }
+// The signal of a row that the level reaches: only dust takes it, capped.
+fn signal_of(class: u32, emitted: u8, level: u8) -> u8
+    ensures { λ r. ⌜ r ≡ cond (isDust (kindIn class)) (min maxSignal level) emitted ⌝ }
 {
-    if 0 < x { x - 1 } else { 0 }
-}
-
-fn wide(x: u16) -> usize
-    ensures { λ r. ⌜ r ≡ x ⌝ }
-{
-    x as usize
-}
-
-// The largest level in so many slots: an empty one lies past the column's end, where there is none.
-fn largest(slots: &[u16], start: usize, width: usize, signal: &[u8]) -> u8
-    requires { ⌜ start + width ≤ length (now slots) ⌝ }
-    ensures { λ r. ⌜ r ≡ slotted width (now (slots .entry)) start (now (signal .entry)) ⌝ }
-{
-    let mut best = 0;
-    let mut k = 0;
-    while k < width {
-        let level = byte_at(signal, wide(slots[start + k]));
-        best = larger(best, level);
-        k += 1;
+    if is_dust_in(class) {
+        return Signal { level }.capped().level;
     }
-    best
+    emitted
 }
 
-// The signal of a row in the next round.
-fn next_signal(
-    table: &[u8],
-    emitted: &[u8],
-    direct: &[u8],
-    feeders: &[u16],
-    signal: &[u8],
-    row: usize,
-) -> u8
-    requires { ⌜ (row < length (now emitted)) × (row < length (now direct)) × (row * 12 + 12 ≤ length (now feeders)) ⌝ }
-    ensures { λ r. ⌜ r ≡ nextSignal (now (table .entry)) (now (emitted .entry)) (now (direct .entry)) (now (feeders .entry)) (now (signal .entry)) row ⌝ }
+// Makes signals of levels, in place.
+fn make_signals(class: &[u32], emitted: &[u8], levels: &mut [u8])
+    requires { ⌜ (length (now emitted) ≡ length (now class)) × (length (now levels) ≡ length (now class)) ⌝ }
+    ensures { λ _. ⌜ now (levels .exit) ≡ signalsIn (now (class .entry)) (now (emitted .entry)) (λ i. min maxSignal (row (now (levels .entry)) i)) ⌝ }
 {
-    if kind_of(table, row) != kind::REDSTONE_WIRE {
-        return emitted[row];
+    for i in 0..levels.len() {
+        levels[i] = signal_of(class[i], emitted[i], levels[i]);
     }
-    let fed = less_one(largest(feeders, row * 12, 12, signal));
-    Signal {
-        level: larger(fed, direct[row]),
-    }
-        .capped()
-        .level
-}
-
-// The weak power of a row in the next round.
-fn next_weak(base: &[u8], unders: &[u16], signal: &[u8], row: usize) -> u8
-    requires { ⌜ (row < length (now base)) × (row * 5 + 5 ≤ length (now unders)) ⌝ }
-    ensures { λ r. ⌜ r ≡ nextWeak (now (base .entry)) (now (unders .entry)) (now (signal .entry)) row ⌝ }
-{
-    larger(base[row], largest(unders, row * 5, 5, signal))
-}
-
-// The signal of a row before the first round: dust starts at 0.
-fn first_signal(table: &[u8], emitted: &[u8], row: usize) -> u8
-    requires { ⌜ row < length (now emitted) ⌝ }
-    ensures { λ r. ⌜ r ≡ firstSignal (now (table .entry)) (now (emitted .entry)) row ⌝ }
-{
-    if kind_of(table, row) == kind::REDSTONE_WIRE {
-        return 0;
-    }
-    emitted[row]
 }
 
 // The signals of the next round.
 pub fn next_signals(
-    table: &[u8],
+    near: &[u16],
+    class: &[u32],
     emitted: &[u8],
     direct: &[u8],
-    feeders: &[u16],
     signal: &[u8],
     out: &mut [u8],
 )
-    requires { ⌜ (length (now emitted) ≡ length (now out)) × (length (now direct) ≡ length (now out)) × (length (now feeders) ≡ length (now out) * 12) ⌝ }
-    ensures { λ _. ⌜ now (out .exit) ≡ tabulate (length (now (out .entry))) (nextSignal (now (table .entry)) (now (emitted .entry)) (now (direct .entry)) (now (feeders .entry)) (now (signal .entry))) ⌝ }
+    requires { ⌜ Shaped (now near) (now class) ⌝ }
+    requires { ⌜ (length (now emitted) ≡ length (now class)) × (length (now direct) ≡ length (now class)) ⌝ }
+    requires { ⌜ (length (now signal) ≡ length (now class)) × (length (now out) ≡ length (now class)) ⌝ }
+    ensures { λ _. ⌜ now (out .exit) ≡ nextSignals (circuit (now (near .entry)) (now (class .entry))) (now (emitted .entry)) (now (direct .entry)) (now (signal .entry)) ⌝ }
 {
-    for i in 0..out.len() {
-        out[i] = next_signal(table, emitted, direct, feeders, signal, i);
-    }
+    copy(direct, out);
+    spread(Edge::Transmits, 1, near, class, signal, out);
+    make_signals(class, emitted, out);
 }
 
 // The weak power of the next round.
-pub fn next_weaks(base: &[u8], unders: &[u16], signal: &[u8], out: &mut [u8])
-    requires { ⌜ (length (now base) ≡ length (now out)) × (length (now unders) ≡ length (now out) * 5) ⌝ }
-    ensures { λ _. ⌜ now (out .exit) ≡ tabulate (length (now (out .entry))) (nextWeak (now (base .entry)) (now (unders .entry)) (now (signal .entry))) ⌝ }
+pub fn next_weaks(near: &[u16], class: &[u32], base: &[u8], signal: &[u8], out: &mut [u8])
+    requires { ⌜ Shaped (now near) (now class) ⌝ }
+    requires { ⌜ (length (now base) ≡ length (now class)) × (length (now signal) ≡ length (now class)) × (length (now out) ≡ length (now class)) ⌝ }
+    ensures { λ _. ⌜ now (out .exit) ≡ nextWeaks (circuit (now (near .entry)) (now (class .entry))) (now (base .entry)) (now (signal .entry)) ⌝ }
 {
-    for i in 0..out.len() {
-        out[i] = next_weak(base, unders, signal, i);
-    }
+    copy(base, out);
+    spread(Edge::DustToWeak, 0, near, class, signal, out);
 }
 
-// The signals before the first round.
-pub fn first_signals(table: &[u8], emitted: &[u8], out: &mut [u8])
-    requires { ⌜ length (now emitted) ≡ length (now out) ⌝ }
-    ensures { λ _. ⌜ now (out .exit) ≡ tabulate (length (now (out .entry))) (firstSignal (now (table .entry)) (now (emitted .entry))) ⌝ }
+// The signals before the first round: dust starts at 0.
+pub fn first_signals(class: &[u32], emitted: &[u8], out: &mut [u8])
+    requires { ⌜ (length (now emitted) ≡ length (now class)) × (length (now out) ≡ length (now class)) ⌝ }
+    ensures { λ _. ⌜ now (out .exit) ≡ signalsIn (now (class .entry)) (now (emitted .entry)) (λ _. 0) ⌝ }
 {
-    for i in 0..out.len() {
-        out[i] = first_signal(table, emitted, i);
-    }
+    zeros(out);
+    make_signals(class, emitted, out);
 }
 
-// Whether a round answers: signals and power map both equal the last, of which the map is the same in all rounds but the first.
+// Whether a round answers: signals and power map both equal the last. The map is empty before the first round, and the same after every round.
 pub fn answers(
-    empty: bool,
+    class: &[u32],
     rounds: u32,
     signal: &[u8],
     weak: &[u8],
     next_signal: &[u8],
     next_weak: &[u8],
 ) -> bool
-    ensures { λ r. ⌜ r ≡ repeats empty rounds (now (signal .entry)) (now (weak .entry)) (now («next_signal» .entry)) (now («next_weak» .entry)) ⌝ }
+    ensures { λ r. ⌜ r ≡ repeats (noneMapped (now (class .entry))) rounds (now (signal .entry)) (now (weak .entry)) (now («next_signal» .entry)) (now («next_weak» .entry)) ⌝ }
 {
-    same(signal, next_signal) & same(weak, next_weak) & ((0 < rounds) | empty)
+    same(signal, next_signal) & same(weak, next_weak) & ((0 < rounds) | none_mapped(class))
 }

@@ -1,105 +1,58 @@
--- Laws: over the prepared columns the rule of a round gives the network's next signals and weak power, and the loop of rounds its settled ones.
+-- Laws: over the prepared columns a round gives the network's next signals and weak power, and the loop of rounds its settled ones.
 -- Assumes nothing.
 use mathlib.Core.Path.{_≡_, refl, ap, sym, _∙_}
 use mathlib.Core.Bool.{Bool, true, false, cond}
-use Prim.Native.Nat.{ℕ, _+_, _*_, _≤_, max}
+use Prim.Native.Nat.{ℕ, _+_, _-_, _≤_, _<_, max}
 use native.Mathlib.Omega.{arith}
 use lib.ListN.{length}
 use lib.Dec.{leb}
 use borrow.Author.Tests.{leb-true, le-leb, lt-leb}
-use Rattle.columns.specs.Column.{Bytes, Column, row, tabulate}
+use Rattle.columns.specs.Column.{Column, row, tabulate}
 use Rattle.columns.proofs.Columns.{length-tabulate, row-tabulate, same-rule}
 use Rattle.network.specs.Levels.{arriving}
 use Rattle.network.specs.Network.{Network, strongOf, weakOf, level, signals, emptyMap}
 use Rattle.network.specs.Settled.{roundsOf, settled}
-use Rattle.network.specs.Laws.Loop.{Unanswered, Answered, repeats, unanswered-start, answered-next, unanswered-next, unanswered-out}
-use Rattle.blocks.specs.Kind.{isDust}
+use Rattle.network.specs.Laws.Loop.{unmapped, Unanswered, Answered, repeats, unanswered-start, answered-next, unanswered-next, unanswered-out}
 use Rattle.levels.specs.declared.signal.Rounds.{Rounds}
-use Rattle.world.specs.Rows.{rows, kindOf}
 use Rattle.refusals.specs.declared.Checked.the-variants.{Accepted}
 use Rattle.refusals.specs.Check.{refuseUnless}
-use Rattle.edges.specs.Edges.{strongToWeak, emittedToDust, strongToDust, networkOf}
 use Rattle.electrical.specs.Answer.{Columns}
-use Rattle.electrical.proofs.Demand.{on-map}
-use Rattle.gather.proofs.Slotted.{arriving-feeders, arriving-unders}
-use Rattle.round.specs.Round.{slotted, nextSignal, nextWeak, firstSignal}
-use Rattle.rounds.specs.Prepared.{Prepared}
+use Rattle.circuit.specs.Circuit.{Shaped, circuit}
+use Rattle.circuit.proofs.Ends.{circuit-on-map}
+use Rattle.power.specs.Power.{baseOf, directOf, noneMapped}
+use Rattle.power.proofs.Mapped.{unmapped-is}
+use Rattle.round.specs.Round.{nextSignals, nextWeaks, signalsIn}
+use Rattle.rounds.specs.Prepared.{Prepared, Room, Turns}
 use Rattle.rounds.specs.Outcome.{settledIn, outcomeOf, writtenBy, RunsRounds, Solves}
 use Rattle.rounds.specs.declared.Outcome.{Outcome}
 use Rattle.rounds.specs.declared.Outcome.the-variants.{Settled, Unsettled}
 
--- a column that a rule gives has as many rows
-pub made-rows : {n m : ℕ} (f : ℕ → ℕ) {s : Column} → s ≡ tabulate n f → n ≡ m → length s ≡ m
-made-rows {n} f h e = ap length h ∙ length-tabulate n 0 f ∙ e
+-- ---- the prepared columns
 
-signals-first : (p t : Bytes) (e : Column) → tabulate (rows t) (firstSignal t e) ≡ signals (networkOf p t) e (λ i. 0)
-unfolding firstSignal signals networkOf
-signals-first p t e = refl
+-- ---- a round
 
-module _ {p t : Bytes} {e base direct feeders unders : Column} {empty : Bool} (c : Prepared p t e base direct feeders unders empty) where
-  -- the strong power
-  abbrev g : Column
-  g = strongOf (networkOf p t) e
+module _ (N : Network) (e g s : Column) where
+  signals-are : {direct : Column} → direct ≡ directOf N e g → nextSignals N e direct s ≡ signals N e (level N e g s)
+  unfolding directOf nextSignals level signals
+  signals-are is =
+      same-rule (N .size) _ _
+      (λ i l.
+      rw (is, row-tabulate (N .size) (λ k. max (arriving (N .size) (N .emittedToDust) (row e) k) (arriving (N .size) (N .strongToDust) (row g) k)) i l))
 
-  module _ (s : Column) (sized : length s ≡ rows t) where
-    signals-next : tabulate (rows t) (nextSignal t e direct feeders s) ≡ signals (networkOf p t) e (level (networkOf p t) e g s)
-    unfolding nextSignal slotted signals level networkOf
-    signals-next =
-        same-rule (rows t) _ _
-        (λ i l. ap (λ x. cond (isDust (kindOf t i)) x (row e i))
-        (rw (c .feeders-is, c .direct-is, arriving-feeders p t (c .accepted) s sized i l, row-tabulate (rows t) (λ i. max (arriving (rows t) (emittedToDust p t) (row e) i) (arriving (rows t) (strongToDust p t) (row g) i)) i l)))
+  weaks-are : {base : Column} → base ≡ baseOf N g → nextWeaks N base s ≡ weakOf N g s
+  unfolding baseOf nextWeaks weakOf
+  weaks-are is = same-rule (N .size) _ _ (λ i l. rw (is, row-tabulate (N .size) (arriving (N .size) (N .strongToWeak) (row g)) i l))
 
-    weaks-next : tabulate (rows t) (nextWeak base unders s) ≡ weakOf (networkOf p t) g s
-    unfolding nextWeak slotted weakOf networkOf
-    weaks-next =
-        same-rule (rows t) _ _
-        (λ i l. rw (c .unders-is, c .base-is, arriving-unders p t (c .accepted) s sized i l, row-tabulate (rows t) (arriving (rows t) (strongToWeak p t) (row g)) i l))
-
-  -- ---- as many entries as the table has rows
-
-  pub base-rows : length base ≡ rows t
-  base-rows = made-rows _ (c .base-is) refl
-
-  pub direct-rows : length direct ≡ rows t
-  direct-rows = made-rows _ (c .direct-is) refl
-
-  pub feeders-rows : length feeders ≡ rows t * 12
-  feeders-rows = made-rows _ (c .feeders-is) refl
-
-  pub unders-rows : length unders ≡ rows t * 5
-  unders-rows = made-rows _ (c .unders-is) refl
-
-  -- ---- the loop
-
-  pub starts : {s w : Column} → s ≡ tabulate (rows t) (firstSignal t e) → w ≡ emptyMap (networkOf p t) → Unanswered (networkOf p t) e empty g 0 s w
-  starts p q = unanswered-start (c .empty-is) refl (p ∙ signals-first _ _ _) q
-
-  -- round k + 1
-  module _ {k n m : ℕ} {s w s′ w′ : Column} (h : Unanswered (networkOf p t) e empty g k s w) (sized : length s ≡ rows t)
-      (made : s′ ≡ tabulate n (nextSignal t e direct feeders s)) (whole : n ≡ rows t) (powered : w′ ≡ tabulate m (nextWeak base unders s)) (full : m ≡ rows t) where
-    turned : s′ ≡ signals (networkOf p t) e (level (networkOf p t) e g s)
-    turned = made ∙ rw whole (signals-next s sized)
-
-    weakened : w′ ≡ weakOf (networkOf p t) g s
-    weakened = powered ∙ rw full (weaks-next s sized)
-
-    module _ {b : Bool} (answered : b ≡ repeats empty k s w s′ w′) where
-      pub stops : b ≡ true → Answered (networkOf p t) e g (k + 1) s′ w′
-      stops b-is = answered-next (on-map p t) h turned weakened (sym answered ∙ b-is)
-
-      pub goes-on : b ≡ false → Unanswered (networkOf p t) e empty g (k + 1) s′ w′
-      goes-on b-is = unanswered-next (on-map p t) h turned weakened (sym answered ∙ b-is)
-
--- ---- the loop's invariant
-
--- after some rounds, with the rest of the limit left
-pub record Turning (p t : Bytes) (e : Column) (empty : Bool) (limit : ℕ) (s0 w0 s1 w1 : Column) (rounds left : ℕ) : Type 0 where
-  pub count : rounds + left ≡ limit
-  pub unanswered : Unanswered (networkOf p t) e empty (strongOf (networkOf p t) e) rounds s0 w0
-  pub s0-rows : length s0 ≡ rows t
-  pub w0-rows : length w0 ≡ rows t
-  pub s1-rows : length s1 ≡ rows t
-  pub w1-rows : length w1 ≡ rows t
+-- over the prepared columns
+pub turns : {near class e base direct : Column} → Prepared near class e base direct → {rounds : ℕ} {s w s′ w′ : Column} {r : Bool}
+    → s′ ≡ nextSignals (circuit near class) e direct s → w′ ≡ nextWeaks (circuit near class) base s → r ≡ repeats (noneMapped class) rounds s w s′ w′
+    → Turns (circuit near class) e rounds s w s′ w′ r
+turns {near} {class} {e} p {s = s} signal weak answer =
+    record {
+      signal = signal ∙ signals-are (circuit near class) e _ s (p .direct-is);
+      weak = weak ∙ weaks-are (circuit near class) e _ s (p .base-is);
+      answer = rw (unmapped-is near class) answer;
+    }
 
 -- ---- the end of the loop
 
@@ -130,3 +83,49 @@ module _ {N : Network} {e : Column} {limit : ℕ} where
             let n = h .levels (leb-true _ _ l) in
             record { signals = a ∙ rw q (n .signal); weaks = b ∙ rw q (n .weak); strongs = c ∙ rw q (g-is ∙ n .strong) }
         go false l q = record { signals = a ∙ rw q; weaks = b ∙ rw q; strongs = c ∙ rw q }
+
+-- ---- the loop
+
+-- after some rounds, with the rest of the limit left
+pub record Turning (near class e : Column) (limit : ℕ) (s0 w0 s1 w1 : Column) (rounds left : ℕ) : Type 0 where
+  pub shaped : Shaped near class
+  pub room : Room (length class) s0 w0 s1 w1
+  pub count : rounds + left ≡ limit
+  pub unanswered : Unanswered (circuit near class) e (unmapped (circuit near class)) (strongOf (circuit near class) e) rounds s0 w0
+
+module _ {near class e : Column} where
+  pub turning-start : {limit : ℕ} {s0 w0 s1 w1 s w : Column} → Shaped near class → Room (length class) s0 w0 s1 w1 → s ≡ signalsIn class e (λ _. 0)
+      → w ≡ tabulate (length w0) (λ _. 0) → Turning near class e limit s w s1 w1 0 limit
+  unfolding signalsIn signals emptyMap circuit
+  turning-start shaped room p q =
+      record {
+        shaped = shaped;
+        room =
+            record {
+              s0-rows = ap length p ∙ length-tabulate _ 0 _;
+              w0-rows = ap length q ∙ length-tabulate _ 0 _ ∙ room .w0-rows;
+              s1-rows = room .s1-rows;
+              w1-rows = room .w1-rows;
+            };
+        count = omega arith;
+        unanswered = unanswered-start refl refl p (q ∙ rw (room .w0-rows));
+      }
+
+  module _ {limit rounds left : ℕ} {s0 w0 s1 w1 s w : Column} {r : Bool} (h : Turning near class e limit s0 w0 s1 w1 rounds left)
+      (more : 0 < left) (t : Turns (circuit near class) e rounds s0 w0 s w r) where
+    pub turning-stops : r ≡ true → RunsRounds (circuit near class) e limit s w (settledIn (rounds + 1))
+    turning-stops is =
+        ran-settled (answered-next (circuit-on-map (h .shaped)) (h .unanswered) (t .signal) (t .weak) (sym (t .answer) ∙ is))
+        (omega (arith, h .count))
+
+    pub turning-on : r ≡ false → {s0′ w0′ : Column} → s0′ ≡ s → w0′ ≡ w → Turning near class e limit s0′ w0′ s w (rounds + 1) (left - 1)
+    unfolding signals weakOf circuit
+    turning-on is p q =
+        let s-rows : length s ≡ length class = ap length (t .signal) ∙ length-tabulate _ 0 _ in
+        let w-rows : length w ≡ length class = ap length (t .weak) ∙ length-tabulate _ 0 _ in
+        record {
+          shaped = h .shaped;
+          room = record { s0-rows = ap length p ∙ s-rows; w0-rows = ap length q ∙ w-rows; s1-rows = s-rows; w1-rows = w-rows };
+          count = omega (arith, h .count);
+          unanswered = rw (p, q) (unanswered-next (circuit-on-map (h .shaped)) (h .unanswered) (t .signal) (t .weak) (sym (t .answer) ∙ is));
+        }

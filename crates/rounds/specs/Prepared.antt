@@ -1,41 +1,39 @@
--- The columns that no round changes, as the rounds find them, and the room for the rounds.
+-- The columns that no round changes, as the rounds find them, the room for the rounds, and what a round makes of it.
 -- Assumes nothing.
 use mathlib.Core.Path.{_≡_}
 use mathlib.Core.Bool.{Bool}
-use Prim.Native.Nat.{_*_, max}
+use Prim.Native.Nat.{ℕ}
 use lib.ListN.{length}
-use Rattle.columns.specs.Column.{Bytes, Column, row, tabulate}
-use Rattle.network.specs.Levels.{arriving}
-use Rattle.network.specs.Network.{strongOf, emptyMap}
-use Rattle.network.specs.Laws.Loop.{unmapped}
-use Rattle.world.specs.Rows.{rows}
-use Rattle.refusals.specs.Accepted.{Table}
-use Rattle.edges.specs.Edges.{strongToWeak, emittedToDust, strongToDust, networkOf}
-use Rattle.gather.specs.Slots as Slots
+use Rattle.columns.specs.Column.{Column}
+use Rattle.network.specs.Network.{Network, strongOf, weakOf, level, signals}
+use Rattle.network.specs.Laws.Loop.{unmapped, repeats}
+use Rattle.circuit.specs.Circuit.{Shaped, circuit}
+use Rattle.power.specs.Power.{baseOf, directOf}
 
--- Of the accepted table t with the emitted levels, under the profile p: the weak power from strong power, the direct levels, the slots of the dust that
--- feeds, and whether the power map is empty.
-pub record Prepared (p t : Bytes) (emitted base direct feeders unders : Column) (empty : Bool) : Type 0 where
-  pub accepted : Table t
-  pub emitted-rows : length emitted ≡ rows t
-  pub base-is : base ≡ tabulate (rows t) (arriving (rows t) (strongToWeak p t) (row (strongOf (networkOf p t) emitted)))
-  pub direct-is :
-      direct
-      ≡ tabulate (rows t)
-      (λ i. max (arriving (rows t) (emittedToDust p t) (row emitted) i) (arriving (rows t) (strongToDust p t) (row (strongOf (networkOf p t) emitted)) i))
-  pub feeders-is : feeders ≡ Slots.feeders p t (rows t * 12)
-  pub unders-is : unders ≡ Slots.unders p t (rows t * 5)
-  pub empty-is : empty ≡ unmapped (networkOf p t)
+-- Of a network in columns with the emitted levels: the weak power from strong power, and the direct levels.
+pub record Prepared (near class emitted base direct : Column) : Type 0 where
+  pub shaped : Shaped near class
+  pub emitted-rows : length emitted ≡ length class
+  pub base-rows : length base ≡ length class
+  pub direct-rows : length direct ≡ length class
+  pub base-is : base ≡ baseOf (circuit near class) (strongOf (circuit near class) emitted)
+  pub direct-is : direct ≡ directOf (circuit near class) emitted (strongOf (circuit near class) emitted)
 
--- Room for the columns of two rounds: no weak power yet in w0.
-pub record Buffers (p t : Bytes) (s0 w0 s1 w1 : Column) : Type 0 where
-  pub s0-rows : length s0 ≡ rows t
-  pub w0-is : w0 ≡ emptyMap (networkOf p t)
-  pub s1-rows : length s1 ≡ rows t
-  pub w1-rows : length w1 ≡ rows t
+-- Room for the columns of two rounds over n rows.
+pub record Room (n : ℕ) (s0 w0 s1 w1 : Column) : Type 0 where
+  pub s0-rows : length s0 ≡ n
+  pub w0-rows : length w0 ≡ n
+  pub s1-rows : length s1 ≡ n
+  pub w1-rows : length w1 ≡ n
 
--- One entry a row in each output column.
-pub record Outputs (t : Bytes) (signal weak strong : Column) : Type 0 where
-  pub signal-rows : length signal ≡ rows t
-  pub weak-rows : length weak ≡ rows t
-  pub strong-rows : length strong ≡ rows t
+-- One entry for each of n rows in each output column.
+pub record Outputs (n : ℕ) (signal weak strong : Column) : Type 0 where
+  pub signal-rows : length signal ≡ n
+  pub weak-rows : length weak ≡ n
+  pub strong-rows : length strong ≡ n
+
+-- One round more than so many takes the signals s and the weak power w to s′ and w′, and r says whether it answers.
+pub record Turns (N : Network) (e : Column) (rounds : ℕ) (s w s′ w′ : Column) (r : Bool) : Type 0 where
+  pub signal : s′ ≡ signals N e (level N e (strongOf N e) s)
+  pub weak : w′ ≡ weakOf N (strongOf N e) s
+  pub answer : r ≡ repeats (unmapped N) rounds s w s′ w′

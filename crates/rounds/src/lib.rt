@@ -1,4 +1,5 @@
-// The rounds in code, over columns prepared before, which they require: `solver` prepares them once a settling.
+// The rounds in code, over a network in columns.
+mod run;
 pub mod settle;
 
 use levels::signal::Rounds;

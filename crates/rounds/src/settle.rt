@@ -1,65 +1,103 @@
-// The loop of rounds over the prepared columns.
+// Settling, with room of its own for every column that it makes. Each function here lends what it declares once, to the next.
 use crate::Outcome;
+use crate::run::run;
 use columns::copy;
-use levels::signal::Rounds;
-use round::answers;
-use round::first_signals;
-use round::next_signals;
-use round::next_weaks;
+use power::fill_power;
 ghost use mathlib.Core.Path.{_≡_};
 ghost use lib.ListN.{length};
-ghost use Rattle.columns.specs.Column.{tabulate};
-ghost use Rattle.network.specs.Network.{strongOf, emptyMap};
+ghost use Rattle.network.specs.Network.{strongOf};
 ghost use Rattle.network.specs.Settled.{roundsOf, settled};
-ghost use Rattle.world.specs.Rows.{rows};
-ghost use Rattle.edges.specs.Edges.{networkOf};
-ghost use Rattle.round.specs.Round.{firstSignal};
-ghost use Rattle.rounds.specs.Prepared.{Prepared, Buffers, Outputs};
+ghost use Rattle.circuit.specs.Circuit.{Shaped, circuit};
+ghost use Rattle.rounds.specs.Prepared.{Prepared, Outputs};
 ghost use Rattle.rounds.specs.Outcome.{writtenBy, RunsRounds, Solves};
 
-// Rounds until one answers, while the limit lasts: each from the last one's signals, which stand in s0, and its weak power in w0.
-// The answering round's stand in s1 and w1.
-fn run(
-    profile: &[u8],
-    table: &[u8],
+// Rounds over the prepared columns, with room for the last round's.
+fn run_over(
+    near: &[u16],
+    class: &[u32],
     emitted: &[u8],
     base: &[u8],
     direct: &[u8],
-    feeders: &[u16],
-    unders: &[u16],
-    empty: bool,
     limit: u32,
-    s0: &mut [u8],
-    w0: &mut [u8],
     s1: &mut [u8],
     w1: &mut [u8],
 ) -> Outcome
-    requires { ⌜ Prepared (now profile) (now table) (now emitted) (now base) (now direct) (now feeders) (now unders) empty ⌝ }
-    requires { ⌜ (now s0 ≡ tabulate (rows (now table)) (firstSignal (now table) (now emitted))) × (now w0 ≡ emptyMap (networkOf (now profile) (now table))) ⌝ }
-    requires { ⌜ (length (now s1) ≡ rows (now table)) × (length (now w1) ≡ rows (now table)) ⌝ }
-    ensures { λ r. ⌜ RunsRounds (networkOf (now (profile .entry)) (now (table .entry))) (now (emitted .entry)) limit (now (s1 .exit)) (now (w1 .exit)) r ⌝ }
+    requires { ⌜ Prepared (now near) (now class) (now emitted) (now base) (now direct) ⌝ }
+    requires { ⌜ (length (now s1) ≡ length (now class)) × (length (now w1) ≡ length (now class)) ⌝ }
+    ensures { λ r. ⌜ RunsRounds (circuit (now (near .entry)) (now (class .entry))) (now (emitted .entry)) limit (now (s1 .exit)) (now (w1 .exit)) r ⌝ }
 {
-    let mut rounds: u32 = 0;
-    let mut left = limit;
-    while 0 < left {
-        left -= 1;
-        next_signals(table, emitted, direct, feeders, s0, s1);
-        next_weaks(base, unders, s0, w1);
-        let answered = answers(empty, rounds, s0, w0, s1, w1);
-        rounds += 1;
-        if answered {
-            return Outcome::Settled {
-                rounds: Rounds { count: rounds },
-            };
-        }
-        copy(s1, s0);
-        copy(w1, w0);
-    }
-    Outcome::Unsettled
+    let n = class.len();
+    let mut s0 = [0u8; 1024];
+    let mut w0 = [0u8; 1024];
+    run(
+        near,
+        class,
+        emitted,
+        base,
+        direct,
+        limit,
+        &mut s0[..n],
+        &mut w0[..n],
+        s1,
+        w1,
+    )
+}
+
+// Prepares the columns that no round changes, and then the rounds.
+fn prepare_and_run(
+    near: &[u16],
+    class: &[u32],
+    emitted: &[u8],
+    limit: u32,
+    charged: &mut [u8],
+    base: &mut [u8],
+    direct: &mut [u8],
+    s1: &mut [u8],
+    w1: &mut [u8],
+) -> Outcome
+    requires { ⌜ Shaped (now near) (now class) × (length (now emitted) ≡ length (now class)) ⌝ }
+    requires { ⌜ (length (now charged) ≡ length (now class)) × (length (now base) ≡ length (now class)) × (length (now direct) ≡ length (now class)) ⌝ }
+    requires { ⌜ (length (now s1) ≡ length (now class)) × (length (now w1) ≡ length (now class)) ⌝ }
+    ensures { λ r. ⌜ RunsRounds (circuit (now (near .entry)) (now (class .entry))) (now (emitted .entry)) limit (now (s1 .exit)) (now (w1 .exit)) r ⌝ }
+    ensures { λ _. ⌜ now (charged .exit) ≡ strongOf (circuit (now (near .entry)) (now (class .entry))) (now (emitted .entry)) ⌝ }
+{
+    fill_power(near, class, emitted, charged, base, direct);
+    run_over(near, class, emitted, base, direct, limit, s1, w1)
+}
+
+// All of it but the columns that it answers with: these are lent.
+fn run_all(
+    near: &[u16],
+    class: &[u32],
+    emitted: &[u8],
+    limit: u32,
+    charged: &mut [u8],
+    s1: &mut [u8],
+    w1: &mut [u8],
+) -> Outcome
+    requires { ⌜ Shaped (now near) (now class) × (length (now emitted) ≡ length (now class)) ⌝ }
+    requires { ⌜ (length (now charged) ≡ length (now class)) × (length (now s1) ≡ length (now class)) × (length (now w1) ≡ length (now class)) ⌝ }
+    ensures { λ r. ⌜ RunsRounds (circuit (now (near .entry)) (now (class .entry))) (now (emitted .entry)) limit (now (s1 .exit)) (now (w1 .exit)) r ⌝ }
+    ensures { λ _. ⌜ now (charged .exit) ≡ strongOf (circuit (now (near .entry)) (now (class .entry))) (now (emitted .entry)) ⌝ }
+{
+    let n = class.len();
+    let mut base = [0u8; 1024];
+    let mut direct = [0u8; 1024];
+    prepare_and_run(
+        near,
+        class,
+        emitted,
+        limit,
+        charged,
+        &mut base[..n],
+        &mut direct[..n],
+        s1,
+        w1,
+    )
 }
 
 // The columns of the answering round, unless there was none.
-fn write(
+pub fn write(
     outcome: Outcome,
     s1: &[u8],
     w1: &[u8],
@@ -80,91 +118,53 @@ fn write(
     }
 }
 
-// Rounds over the prepared columns and lent buffers.
+// Settling in lent room for the columns of the answering round.
 fn settle_in(
-    profile: &[u8],
-    table: &[u8],
+    near: &[u16],
+    class: &[u32],
     emitted: &[u8],
-    charged: &[u8],
-    base: &[u8],
-    direct: &[u8],
-    feeders: &[u16],
-    unders: &[u16],
-    empty: bool,
     limit: u32,
-    s0: &mut [u8],
-    w0: &mut [u8],
+    charged: &mut [u8],
     s1: &mut [u8],
     w1: &mut [u8],
     signal: &mut [u8],
     weak: &mut [u8],
     strong: &mut [u8],
 ) -> Outcome
-    requires { ⌜ Prepared (now profile) (now table) (now emitted) (now base) (now direct) (now feeders) (now unders) empty ⌝ }
-    requires { ⌜ now charged ≡ strongOf (networkOf (now profile) (now table)) (now emitted) ⌝ }
-    requires { ⌜ Buffers (now profile) (now table) (now s0) (now w0) (now s1) (now w1) ⌝ }
-    requires { ⌜ Outputs (now table) (now signal) (now weak) (now strong) ⌝ }
-    ensures { λ r. ⌜ Solves (roundsOf (networkOf (now (profile .entry)) (now (table .entry))) (now (emitted .entry))) (settled (networkOf (now (profile .entry)) (now (table .entry))) (now (emitted .entry))) limit (now (signal .entry)) (now (weak .entry)) (now (strong .entry)) (now (signal .exit)) (now (weak .exit)) (now (strong .exit)) r ⌝ }
+    requires { ⌜ Shaped (now near) (now class) × (length (now emitted) ≡ length (now class)) ⌝ }
+    requires { ⌜ (length (now charged) ≡ length (now class)) × (length (now s1) ≡ length (now class)) × (length (now w1) ≡ length (now class)) ⌝ }
+    requires { ⌜ Outputs (length (now class)) (now signal) (now weak) (now strong) ⌝ }
+    ensures { λ r. ⌜ Solves (roundsOf (circuit (now (near .entry)) (now (class .entry))) (now (emitted .entry))) (settled (circuit (now (near .entry)) (now (class .entry))) (now (emitted .entry))) limit (now (signal .entry)) (now (weak .entry)) (now (strong .entry)) (now (signal .exit)) (now (weak .exit)) (now (strong .exit)) r ⌝ }
 {
-    first_signals(table, emitted, s0);
-    let outcome = run(
-        profile,
-        table,
-        emitted,
-        base,
-        direct,
-        feeders,
-        unders,
-        empty,
-        limit,
-        s0,
-        w0,
-        s1,
-        w1,
-    );
+    let outcome = run_all(near, class, emitted, limit, charged, s1, w1);
     write(outcome, s1, w1, charged, signal, weak, strong);
     outcome
 }
 
-// Rounds over the prepared columns.
+// Settles a network of at most 1,024 rows with its emitted levels, round by round.
 pub fn settle(
-    profile: &[u8],
-    table: &[u8],
+    near: &[u16],
+    class: &[u32],
     emitted: &[u8],
-    charged: &[u8],
-    base: &[u8],
-    direct: &[u8],
-    feeders: &[u16],
-    unders: &[u16],
-    empty: bool,
     limit: u32,
     signal: &mut [u8],
     weak: &mut [u8],
     strong: &mut [u8],
 ) -> Outcome
-    requires { ⌜ Prepared (now profile) (now table) (now emitted) (now base) (now direct) (now feeders) (now unders) empty ⌝ }
-    requires { ⌜ now charged ≡ strongOf (networkOf (now profile) (now table)) (now emitted) ⌝ }
-    requires { ⌜ Outputs (now table) (now signal) (now weak) (now strong) ⌝ }
-    ensures { λ r. ⌜ Solves (roundsOf (networkOf (now (profile .entry)) (now (table .entry))) (now (emitted .entry))) (settled (networkOf (now (profile .entry)) (now (table .entry))) (now (emitted .entry))) limit (now (signal .entry)) (now (weak .entry)) (now (strong .entry)) (now (signal .exit)) (now (weak .exit)) (now (strong .exit)) r ⌝ }
+    requires { ⌜ Shaped (now near) (now class) × (length (now emitted) ≡ length (now class)) ⌝ }
+    requires { ⌜ Outputs (length (now class)) (now signal) (now weak) (now strong) ⌝ }
+    ensures { λ r. ⌜ Solves (roundsOf (circuit (now (near .entry)) (now (class .entry))) (now (emitted .entry))) (settled (circuit (now (near .entry)) (now (class .entry))) (now (emitted .entry))) limit (now (signal .entry)) (now (weak .entry)) (now (strong .entry)) (now (signal .exit)) (now (weak .exit)) (now (strong .exit)) r ⌝ }
 {
-    let n = emitted.len();
-    let mut s0 = [0u8; 1024];
-    let mut w0 = [0u8; 1024];
+    let n = class.len();
+    let mut charged = [0u8; 1024];
     let mut s1 = [0u8; 1024];
     let mut w1 = [0u8; 1024];
     settle_in(
-        profile,
-        table,
+        near,
+        class,
         emitted,
-        charged,
-        base,
-        direct,
-        feeders,
-        unders,
-        empty,
         limit,
-        &mut s0[..n],
-        &mut w0[..n],
+        &mut charged[..n],
         &mut s1[..n],
         &mut w1[..n],
         signal,

@@ -1,43 +1,79 @@
 -- Laws of a call while it runs: what settling leaves, and one tick and many in the code's steps.
 -- Assumes nothing.
 use mathlib.Core.Path.{_≡_, ap, sym, _∙_}
-use Prim.Native.Nat.{ℕ, _+_}
-use lib.ListN.{length}
-use borrow.Author.Tests.{eq-eqb, le-leb}
+use Prim.Native.Nat.{ℕ, _+_, _*_, _≤_}
+use native.Mathlib.Omega.{arith}
+use lib.ListN.{length, take, replicate}
 use Rattle.columns.specs.Column.{Bytes, Column}
-use Rattle.refusals.specs.declared.Checked.the-variants.{Accepted}
+use Rattle.columns.proofs.Columns.{length-zeros}
+use Rattle.network.specs.Laws.Loop.{Answered}
+use Rattle.network.specs.Laws.SameEdges.{SameEdges, rounds-same, settled-same}
+use Rattle.world.specs.Rows.{rows}
 use Rattle.refusals.specs.Check.{IsAccepted}
-use Rattle.emitted.specs.Emitted.{IsValid}
-use Rattle.electrical.specs.Answer.{roundsOf, settled, checkCall}
-use Rattle.electrical.proofs.Demand.{rounds-range}
-use Rattle.rounds.specs.declared.Outcome.{Outcome}
-use Rattle.rounds.specs.Outcome.{settledIn, outcomeOf, Solves}
+use Rattle.refusals.specs.Accepted.{Table}
+use Rattle.refusals.proofs.Accepted.{accepted-input}
+use Rattle.emitted.specs.Emitted.{emitted}
+use Rattle.edges.specs.Edges.{networkOf}
+use Rattle.electrical.specs.Answer.{roundsOf, settled}
+use Rattle.circuit.specs.Circuit.{Shaped, circuit}
+use Rattle.prepare.specs.Classes.{Prepared}
+use Rattle.prepare.proofs.Rows.{length-classes}
+use Rattle.prepare.proofs.Table.{prepared-shaped, circuit-of-table}
 use Rattle.levels.specs.Numbers.{numbers}
 use Rattle.updates.specs.State.{devicesOf, IsValidState}
 use Rattle.updates.specs.Tick.{withDevices, withLights, settledOf, setDevices, setLights, tick, ticks}
-use Rattle.running.specs.Running.{ColumnLengths, Ready, HoldsSettled, Settled}
+use Rattle.running.specs.Running.{ColumnLengths, Room, Ready, HoldsSettled, Settled}
 use Rattle.running.proofs.Many.{ticks-none, ticks-next}
 use Rattle.running.proofs.States.{length-ticks, tick-devices}
 use Rattle.running.proofs.Valid.{valid-state, devices-of-valid, set-devices-valid, ticks-valid}
 
 -- ---- settling
 
-pub call-accepted : (p t : Bytes) (d signal weak strong : Column) → IsAccepted p t → IsValid t d → ColumnLengths t d signal weak strong
-    → checkCall p t d (length signal) (length weak) (length strong) ≡ Accepted
-unfolding checkCall
-call-accepted p t d signal weak strong a v r =
-    rw (a, v, eq-eqb _ _ (r .signal-rows), eq-eqb _ _ (r .weak-rows), eq-eqb _ _ (r .strong-rows))
+-- the columns have the network of the table, so that what they settle to is what the table does
+module _ {p t : Bytes} {near class : Column} (accepted : IsAccepted p t) (c : Prepared p t near class) where
+  pub table : Table t
+  table = accepted-input p t accepted .1
 
--- "so settle with a limit from 17 up never calls it unsettled"
-pub solved : (p t : Bytes) (d signal weak strong signal′ weak′ strong′ : Column) {r : Outcome}
-    → Solves (roundsOf p t d) (settled p t d) 17 signal weak strong signal′ weak′ strong′ r
-    → (r ≡ settledIn (roundsOf p t d)) × HoldsSettled p t d signal′ weak′ strong′
-unfolding outcomeOf
-solved p t d signal weak strong signal′ weak′ strong′ s =
-    let e = le-leb (roundsOf p t d) 17 (rounds-range p t d .1) in (
-      rw e at (s .answer),
-      record { signals = rw e at (s .columns .signals); weaks = rw e at (s .columns .weaks); strongs = rw e at (s .columns .strongs) },
-    )
+  pub shaped : Shaped near class
+  shaped = rw (c .near-is, c .class-is) (prepared-shaped p t table)
+
+  same : SameEdges (circuit near class) (networkOf p t)
+  same = rw (c .near-is, c .class-is) (circuit-of-table p t table)
+
+  pub class-rows : length class ≡ rows t
+  class-rows = rw (c .class-is) (length-classes p t)
+
+  pub settled-table : {d signal weak strong : Column} {r : ℕ} → Answered (circuit near class) (emitted t d) strong r signal weak
+      → (r ≡ roundsOf p t d) × HoldsSettled p t d signal weak strong
+  unfolding roundsOf settled
+  settled-table {d} a =
+      let s = settled-same same (emitted t d) in (
+        sym (a .rounds) ∙ rounds-same same (emitted t d),
+        record {
+          signals = a .signal ∙ ap (λ x. x .signal) s;
+          weaks = a .weak ∙ ap (λ x. x .weak) s;
+          strongs = a .strong ∙ ap (λ x. x .strong) s;
+        },
+      )
+
+-- ---- room for the prepared columns
+
+-- n rows of an accepted table: the front of an array of zeros is room for each of its columns
+module _ {t : Bytes} (accepted : Table t) {n : ℕ} (is : n ≡ rows t) where
+  pub few-class : n ≤ 1024
+  few-class = omega (arith, accepted .few)
+
+  pub few-near : n * 7 ≤ 7168
+  few-near = omega (arith, few-class)
+
+  pub near-front : n * 7 ≡ length (take {A = ℕ} (n * 7) (replicate 7168 0))
+  near-front = sym (length-zeros (n * 7) 7168 few-near)
+
+  pub class-front : n ≡ length (take {A = ℕ} n (replicate 1024 0))
+  class-front = sym (length-zeros n 1024 few-class)
+
+  pub room : Room t (take {A = ℕ} (n * 7) (replicate 7168 0)) (take {A = ℕ} n (replicate 1024 0))
+  room = record { near-rows = sym near-front ∙ omega arith; class-rows = sym class-front ∙ is }
 
 -- ---- room stays
 

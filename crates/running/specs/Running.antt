@@ -8,6 +8,7 @@ use Rattle.world.specs.Rows.{rows}
 use Rattle.refusals.specs.Check.{IsAccepted}
 use Rattle.emitted.specs.Emitted.{IsValid}
 use Rattle.electrical.specs.Answer.{settled}
+use Rattle.circuit.specs.Circuit.{places}
 use Rattle.updates.specs.State.{devicesOf}
 
 -- One entry a row of the table t in the device column and in the three output columns.
@@ -16,6 +17,11 @@ pub record ColumnLengths (t : Bytes) (d signal weak strong : Column) : Type 0 wh
   pub signal-rows : length signal ≡ rows t
   pub weak-rows : length weak ≡ rows t
   pub strong-rows : length strong ≡ rows t
+
+-- Room for the prepared columns of the table t.
+pub record Room (t : Bytes) (near class : Column) : Type 0 where
+  pub near-rows : length near ≡ places * rows t
+  pub class-rows : length class ≡ rows t
 
 -- The table is accepted, and the state st has sixteen bytes a row, with valid devices.
 pub record Ready (p t st : Bytes) : Type 0 where

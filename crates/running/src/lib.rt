@@ -1,40 +1,45 @@
-// What the calls do once their checks have passed.
-use levels::signal::Rounds;
-use rounds::Outcome;
-use updates::state::fill_devices;
-use updates::state::fill_fresh;
-use updates::state::fill_fresh_devices;
-use updates::state::set_devices;
-use updates::state::set_lights;
+// What the calls do once their checks have passed: what depends on table and profile alone is prepared once a call.
+mod prepared;
+
+use prepare::prepare;
+use world::row::rows;
 ghost use mathlib.Core.Path.{_≡_};
 ghost use Prim.Native.Nat.{_*_};
 ghost use lib.ListN.{length};
-ghost use Rattle.world.specs.Rows.{rows};
+ghost use Rattle.world.specs.Rows.{rows as rowsOf};
 ghost use Rattle.refusals.specs.Check.{IsAccepted};
-ghost use Rattle.emitted.specs.Emitted.{IsValid};
 ghost use Rattle.electrical.specs.Answer.{roundsOf};
 ghost use Rattle.updates.specs.State.{devicesOf, IsValidState, freshDevices, freshState};
-ghost use Rattle.updates.specs.Tick.{tick, ticks};
-ghost use Rattle.running.specs.Running.{ColumnLengths, Ready, HoldsSettled, Settled};
+ghost use Rattle.updates.specs.Tick.{ticks};
+ghost use Rattle.running.specs.Running.{ColumnLengths, Room, Ready, HoldsSettled, Settled};
 
-// Settles the devices. No table needs more rounds than the limit given here.
-fn settle(
+fn settle_state_in(
     profile: &[u8],
     table: &[u8],
-    devices: &[u8],
+    near: &mut [u16],
+    class: &mut [u32],
+    state: &[u8],
+    devices: &mut [u8],
     signal: &mut [u8],
     weak: &mut [u8],
     strong: &mut [u8],
 ) -> u32
-    requires { ⌜ IsAccepted (now profile) (now table) × IsValid (now table) (now devices) × ColumnLengths (now table) (now devices) (now signal) (now weak) (now strong) ⌝ }
-    ensures rounds { λ r. ⌜ r ≡ roundsOf (now (profile .entry)) (now (table .entry)) (now (devices .entry)) ⌝ }
-    ensures columns { λ r. ⌜ HoldsSettled (now (profile .entry)) (now (table .entry)) (now (devices .entry)) (now (signal .exit)) (now (weak .exit)) (now (strong .exit)) ⌝ }
+    requires { ⌜ Ready (now profile) (now table) (now state) × ColumnLengths (now table) (now devices) (now signal) (now weak) (now strong) × Room (now table) (now near) (now class) ⌝ }
+    ensures rounds { λ r. ⌜ r ≡ roundsOf (now (profile .entry)) (now (table .entry)) (devicesOf (now (table .entry)) (now (state .entry))) ⌝ }
+    ensures columns { λ r. ⌜ Settled (now (profile .entry)) (now (table .entry)) (now (state .entry)) (now (devices .exit)) (now (signal .exit)) (now (weak .exit)) (now (strong .exit)) ⌝ }
 {
-    let outcome = solver::solve(profile, table, devices, Rounds::MAX, signal, weak, strong);
-    match outcome {
-        Outcome::Settled { rounds } => rounds.count,
-        Outcome::Unsettled => 0,
-    }
+    prepare(profile, table, near, class);
+    prepared::settle_state(
+        profile,
+        table,
+        near,
+        class,
+        state,
+        devices,
+        signal,
+        weak,
+        strong,
+    )
 }
 
 // `settle_instantaneous`: settles the devices of a state.
@@ -51,30 +56,52 @@ pub fn settle_state(
     ensures rounds { λ r. ⌜ r ≡ roundsOf (now (profile .entry)) (now (table .entry)) (devicesOf (now (table .entry)) (now (state .entry))) ⌝ }
     ensures columns { λ r. ⌜ Settled (now (profile .entry)) (now (table .entry)) (now (state .entry)) (now (devices .exit)) (now (signal .exit)) (now (weak .exit)) (now (strong .exit)) ⌝ }
 {
-    fill_devices(table, state, devices);
-    settle(profile, table, devices, signal, weak, strong)
+    let n = rows(table);
+    let mut near = [0u16; 7168];
+    let mut class = [0u32; 1024];
+    settle_state_in(
+        profile,
+        table,
+        &mut near[..n * 7],
+        &mut class[..n],
+        state,
+        devices,
+        signal,
+        weak,
+        strong,
+    )
 }
 
-// One tick, from a settled state to the next settled one: devices from the old devices and columns, then the columns, then lamps and bulbs from these.
-fn advance_tick(
+fn settle_ticks_in(
     profile: &[u8],
     table: &[u8],
+    near: &mut [u16],
+    class: &mut [u32],
+    count: u32,
     state: &mut [u8],
     devices: &mut [u8],
     signal: &mut [u8],
     weak: &mut [u8],
     strong: &mut [u8],
 ) -> u32
-    requires { ⌜ IsAccepted (now profile) (now table) × IsValidState (now table) (now state) ⌝ }
-    requires { ⌜ ColumnLengths (now table) (now devices) (now signal) (now weak) (now strong) × Settled (now profile) (now table) (now state) (now devices) (now signal) (now weak) (now strong) ⌝ }
-    ensures next { λ r. ⌜ now (state .exit) ≡ tick (now (profile .entry)) (now (table .entry)) (now (state .entry)) ⌝ }
+    requires { ⌜ IsAccepted (now profile) (now table) × IsValidState (now table) (now state) × ColumnLengths (now table) (now devices) (now signal) (now weak) (now strong) × Room (now table) (now near) (now class) ⌝ }
+    ensures next { λ r. ⌜ now (state .exit) ≡ ticks count (now (profile .entry)) (now (table .entry)) (now (state .entry)) ⌝ }
     ensures rounds { λ r. ⌜ r ≡ roundsOf (now (profile .entry)) (now (table .entry)) (devicesOf (now (table .entry)) (now (state .exit))) ⌝ }
     ensures columns { λ r. ⌜ Settled (now (profile .entry)) (now (table .entry)) (now (state .exit)) (now (devices .exit)) (now (signal .exit)) (now (weak .exit)) (now (strong .exit)) ⌝ }
 {
-    set_devices(profile, table, devices, signal, weak, strong, state);
-    let rounds = settle_state(profile, table, state, devices, signal, weak, strong);
-    set_lights(table, weak, strong, state);
-    rounds
+    prepare(profile, table, near, class);
+    prepared::settle_ticks(
+        profile,
+        table,
+        near,
+        class,
+        count,
+        state,
+        devices,
+        signal,
+        weak,
+        strong,
+    )
 }
 
 // So many ticks. The state keeps no columns, so that it is settled once before the first.
@@ -93,13 +120,51 @@ pub fn settle_ticks(
     ensures rounds { λ r. ⌜ r ≡ roundsOf (now (profile .entry)) (now (table .entry)) (devicesOf (now (table .entry)) (now (state .exit))) ⌝ }
     ensures columns { λ r. ⌜ Settled (now (profile .entry)) (now (table .entry)) (now (state .exit)) (now (devices .exit)) (now (signal .exit)) (now (weak .exit)) (now (strong .exit)) ⌝ }
 {
-    let mut rounds = settle_state(profile, table, state, devices, signal, weak, strong);
-    let mut done: u32 = 0;
-    while done < count {
-        rounds = advance_tick(profile, table, state, devices, signal, weak, strong);
-        done += 1;
-    }
-    rounds
+    let n = rows(table);
+    let mut near = [0u16; 7168];
+    let mut class = [0u32; 1024];
+    settle_ticks_in(
+        profile,
+        table,
+        &mut near[..n * 7],
+        &mut class[..n],
+        count,
+        state,
+        devices,
+        signal,
+        weak,
+        strong,
+    )
+}
+
+fn new_state_in(
+    profile: &[u8],
+    table: &[u8],
+    near: &mut [u16],
+    class: &mut [u32],
+    state: &mut [u8],
+    devices: &mut [u8],
+    signal: &mut [u8],
+    weak: &mut [u8],
+    strong: &mut [u8],
+) -> u32
+    requires { ⌜ IsAccepted (now profile) (now table) × (length (now state) ≡ rowsOf (now table) * 16) × ColumnLengths (now table) (now devices) (now signal) (now weak) (now strong) × Room (now table) (now near) (now class) ⌝ }
+    ensures next { λ r. ⌜ now (state .exit) ≡ freshState (now (profile .entry)) (now (table .entry)) ⌝ }
+    ensures rounds { λ r. ⌜ r ≡ roundsOf (now (profile .entry)) (now (table .entry)) (freshDevices (now (table .entry))) ⌝ }
+    ensures columns { λ r. ⌜ HoldsSettled (now (profile .entry)) (now (table .entry)) (freshDevices (now (table .entry))) (now (signal .exit)) (now (weak .exit)) (now (strong .exit)) ⌝ }
+{
+    prepare(profile, table, near, class);
+    prepared::new_state(
+        profile,
+        table,
+        near,
+        class,
+        state,
+        devices,
+        signal,
+        weak,
+        strong,
+    )
 }
 
 // The state of a table that was just built.
@@ -112,13 +177,23 @@ pub fn new_state(
     weak: &mut [u8],
     strong: &mut [u8],
 ) -> u32
-    requires { ⌜ IsAccepted (now profile) (now table) × (length (now state) ≡ rows (now table) * 16) × ColumnLengths (now table) (now devices) (now signal) (now weak) (now strong) ⌝ }
+    requires { ⌜ IsAccepted (now profile) (now table) × (length (now state) ≡ rowsOf (now table) * 16) × ColumnLengths (now table) (now devices) (now signal) (now weak) (now strong) ⌝ }
     ensures next { λ r. ⌜ now (state .exit) ≡ freshState (now (profile .entry)) (now (table .entry)) ⌝ }
     ensures rounds { λ r. ⌜ r ≡ roundsOf (now (profile .entry)) (now (table .entry)) (freshDevices (now (table .entry))) ⌝ }
     ensures columns { λ r. ⌜ HoldsSettled (now (profile .entry)) (now (table .entry)) (freshDevices (now (table .entry))) (now (signal .exit)) (now (weak .exit)) (now (strong .exit)) ⌝ }
 {
-    fill_fresh_devices(table, devices);
-    let rounds = settle(profile, table, devices, signal, weak, strong);
-    fill_fresh(table, weak, strong, state);
-    rounds
+    let n = rows(table);
+    let mut near = [0u16; 7168];
+    let mut class = [0u32; 1024];
+    new_state_in(
+        profile,
+        table,
+        &mut near[..n * 7],
+        &mut class[..n],
+        state,
+        devices,
+        signal,
+        weak,
+        strong,
+    )
 }

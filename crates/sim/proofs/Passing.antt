@@ -3,6 +3,7 @@
 use mathlib.Core.Path.{_≡_, sym, _∙_}
 use mathlib.Core.Bool.{_&&_}
 use Prim.Native.Nat.{ℕ, _*_, _≤_}
+use native.Mathlib.Omega.{arith}
 use lib.ListN.{length, take, replicate}
 use lib.Dec.{eqb}
 use borrow.Author.Tests.{eqb-true}
@@ -17,7 +18,7 @@ use Rattle.refusals.proofs.Passed.{passed-unless, passed-both}
 use Rattle.refusals.proofs.Accepted.{accepted-input}
 use Rattle.electrical.specs.Answer.{roundsOf, goodColumns}
 use Rattle.rounds.specs.Prepared.{Outputs}
-use Rattle.rounds.proofs.Lending.{outputs, fits}
+use Rattle.rounds.proofs.Lending.{outputs}
 use Rattle.wire.proofs.Alike.{same-rows}
 use Rattle.updates.specs.State.{devicesOf, IsValidState, checkState}
 use Rattle.running.specs.Running.{ColumnLengths, Ready, HoldsSettled}
@@ -32,7 +33,7 @@ use Rattle.sim.proofs.Switching.{switched-devices, switched-valid}
 pub record Passed (p t : Bytes) (Its : Type 0) (signal weak strong : Column) : Type 0 where
   pub accepted : IsAccepted p t
   pub state : Its
-  pub outputs : Outputs t signal weak strong
+  pub outputs : Outputs (rows t) signal weak strong
 
 module _ (p t st : Bytes) (signal weak strong : Column) where
   pub passed-fresh : checkFresh p t (length st) (length signal) (length weak) (length strong) ≡ Accepted
@@ -42,7 +43,7 @@ module _ (p t st : Bytes) (signal weak strong : Column) where
       let (input, rest) = passed-both (checkInput p t) _ h in
       let (room, _) = passed-unless 7 (eqb (length st) (rows t * 16) && goodColumns t (length signal) (length weak) (length strong)) Accepted rest in
       let (state, columns) = and-true (eqb (length st) (rows t * 16)) _ room in
-      record { accepted = input; state = eqb-true _ _ state; outputs = outputs t signal weak strong columns }
+      record { accepted = input; state = eqb-true _ _ state; outputs = outputs (rows t) signal weak strong columns }
 
   pub passed-step : checkStep p t st (length signal) (length weak) (length strong) ≡ Accepted → Passed p t (IsValidState t st) signal weak strong
   unfolding checkStep
@@ -50,7 +51,7 @@ module _ (p t st : Bytes) (signal weak strong : Column) where
       let (input, rest) = passed-both (checkInput p t) _ h in
       let (state, last) = passed-both (checkState t st) _ rest in
       let (columns, _) = passed-unless 7 (goodColumns t (length signal) (length weak) (length strong)) Accepted last in
-      record { accepted = input; state = state; outputs = outputs t signal weak strong columns }
+      record { accepted = input; state = state; outputs = outputs (rows t) signal weak strong columns }
 
   pub passed-tick : (now asked : ℕ) → checkTick p t st now asked (length signal) (length weak) (length strong) ≡ Accepted
       → Passed p t (IsValidState t st) signal weak strong
@@ -61,13 +62,13 @@ module _ (p t st : Bytes) (signal weak strong : Column) where
 
 module _ (p t : Bytes) {n : ℕ} (a : IsAccepted p t) (e : n ≡ rows t) where
   pub few : n ≤ 1024
-  few = fits (accepted-input p t a .1) n e
+  few = omega (arith, accepted-input p t a .1 .few)
 
   -- as long as it was taken
   pub front : n ≡ length (take {A = ℕ} n (replicate 1024 0))
   front = sym (length-zeros n 1024 few)
 
-  pub device-lengths : {signal weak strong : Column} → Outputs t signal weak strong → ColumnLengths t (take n (replicate 1024 0)) signal weak strong
+  pub device-lengths : {signal weak strong : Column} → Outputs (rows t) signal weak strong → ColumnLengths t (take n (replicate 1024 0)) signal weak strong
   device-lengths o =
       record {
         device-rows = sym front ∙ e;
@@ -103,7 +104,7 @@ module _ {p t u st : Bytes} {q : Pos} {power : ℕ} {signal weak strong : Column
         valid = rw (switched-same, e) (switched-valid t q power (devicesOf t st) (devices-of-valid t st (v .state)));
       }
 
-  pub switch-outputs : Outputs u signal weak strong
+  pub switch-outputs : Outputs (rows u) signal weak strong
   switch-outputs =
       record {
         signal-rows = v .outputs .signal-rows ∙ sym switched-rows;

@@ -6,6 +6,7 @@ use Prim.Native.Nat.{ℕ}
 use lib.ListN.{length}
 use lib.Dec.{leb}
 use Rattle.columns.specs.Column.{Bytes, Column}
+use Rattle.world.specs.Rows.{rows}
 use Rattle.refusals.specs.declared.Checked.{Checked}
 use Rattle.refusals.specs.declared.Checked.the-variants.{Accepted, Refused}
 use Rattle.refusals.specs.Check.{refuseUnless, checkInput, answerOf}
@@ -23,13 +24,13 @@ use Rattle.solver.specs.Answer.{answerBy}
 
 module _ (p t : Bytes) (d signal weak strong : Column) where
   -- a call that passes its checks
-  pub passed-call : checkCall p t d (length signal) (length weak) (length strong) ≡ Accepted → Table t × Outputs t signal weak strong
+  pub passed-call : checkCall p t d (length signal) (length weak) (length strong) ≡ Accepted → Table t × Outputs (rows t) signal weak strong
   unfolding checkCall
   passed-call h =
       let (input, rest) = passed-both (checkInput p t) _ h in
       let (_, columns) = passed-both (checkDevices t d) _ rest in
       let (good, _) = passed-unless 7 (goodColumns t (length signal) (length weak) (length strong)) Accepted columns in
-      (accepted-input p t input .1, outputs t signal weak strong good)
+      (accepted-input p t input .1, outputs (rows t) signal weak strong good)
 
   -- what the call checked
   module _ {c : Checked} (checked : c ≡ checkCall p t d (length signal) (length weak) (length strong)) where

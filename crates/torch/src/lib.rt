@@ -6,21 +6,23 @@ use levels::number;
 use states::bits::is_candidate;
 use states::row::toggles_of;
 use words::write_word;
-use world::find::find_at;
 ghost use mathlib.Core.Path.{_≡_};
 ghost use lib.ListN.{length};
+ghost use Rattle.ports.specs.Ports.{Prepared};
 ghost use Rattle.torch.specs.Step.{torchSupportIsPowered, nextToggles, nextCandidate, torchRow};
 
 fn torch_support_is_powered(
     profile: &[u8],
     table: &[u8],
+    near: &[u16],
     weak: &[u8],
     strong: &[u8],
     row: usize,
 ) -> bool
+    requires { ⌜ Prepared (now table) (now near) row ⌝ }
     ensures { λ r. ⌜ r ≡ torchSupportIsPowered (now (profile .entry)) (now (table .entry)) (now (weak .entry)) (now (strong .entry)) row ⌝ }
 {
-    let Found::At(j) = find_at(table, world::row::support_pos(table, row)) else {
+    let Found::At(j) = ports::support_row(table, near, row) else {
         return false;
     };
     let conducts = traits::redstone_traits(profile, table, j).conducts();
@@ -44,15 +46,16 @@ fn next_candidate(old: u8, toggles: u32) -> u8
 pub fn torch_step(
     profile: &[u8],
     table: &[u8],
+    near: &[u16],
     weak: &[u8],
     strong: &[u8],
     row: usize,
     sixteen: &mut [u8],
 )
-    requires { ⌜ length (now sixteen) ≡ 16 ⌝ }
+    requires { ⌜ Prepared (now table) (now near) row × (length (now sixteen) ≡ 16) ⌝ }
     ensures { λ _. ⌜ now (sixteen .exit) ≡ torchRow (now (profile .entry)) (now (table .entry)) (now (weak .entry)) (now (strong .entry)) row (now (sixteen .entry)) ⌝ }
 {
-    let lit = number(!torch_support_is_powered(profile, table, weak, strong, row));
+    let lit = number(!torch_support_is_powered(profile, table, near, weak, strong, row));
     let toggles = next_toggles(toggles_of(sixteen), lit != sixteen[0]);
     let candidate = next_candidate(sixteen[8], toggles);
     sixteen[0] = lit;

@@ -10,6 +10,8 @@ ghost use Prim.Native.Nat.{_*_};
 ghost use lib.ListN.{length};
 ghost use Rattle.columns.specs.Column.{concatRows};
 ghost use Rattle.world.specs.Rows.{rows};
+ghost use Rattle.refusals.specs.Accepted.{Table};
+ghost use Rattle.adjacency.specs.Adjacency.{nearOf};
 ghost use Rattle.levels.specs.Numbers.{numbers};
 ghost use Rattle.fresh.specs.Fresh.{freshRow};
 ghost use Rattle.updates.specs.State.{devicesOf, freshDevices};
@@ -39,13 +41,14 @@ pub fn fill_fresh_devices(table: &[u8], devices: &mut [u8])
 pub fn set_devices(
     profile: &[u8],
     table: &[u8],
+    near: &[u16],
     devices: &[u8],
     signal: &[u8],
     weak: &[u8],
     strong: &[u8],
     state: &mut [u8],
 )
-    requires { ⌜ length (now state) ≡ rows (now table) * 16 ⌝ }
+    requires { ⌜ Table (now table) × (now near ≡ nearOf (now table)) × (length (now state) ≡ rows (now table) * 16) ⌝ }
     ensures { λ _. ⌜ now (state .exit) ≡ withDevices (now (profile .entry)) (now (table .entry)) (now (devices .entry)) (numbers (now (signal .entry)) (now (weak .entry)) (now (strong .entry))) (now (state .entry)) ⌝ }
 {
     let n = rows(table);
@@ -56,6 +59,7 @@ pub fn set_devices(
         device_step(
             profile,
             table,
+            near,
             devices,
             signal,
             weak,

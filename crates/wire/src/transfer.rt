@@ -12,10 +12,9 @@ use world::row::pos_of;
 ghost use mathlib.Core.Path.{_≡_};
 ghost use mathlib.Core.Bool.{_&&_};
 ghost use Rattle.blocks.specs.Kind.{isDust};
-ghost use Rattle.places.specs.Places.{horizontals};
 ghost use Rattle.world.specs.Rows.{kindOf};
 ghost use Rattle.arms.specs.Arms.{armOf};
-ghost use Rattle.wire.specs.Transfer.{fitsHorizontal, fitsRise, fitsFall, fits, ruleAlong, ruleOf, firstRule, dustTransfer, isTransfer, transmits, dustTransmits};
+ghost use Rattle.wire.specs.Transfer.{fitsHorizontal, fitsRise, fitsFall, fits, ruleOf, dustTransfer, isTransfer, dustTransmits};
 
 // The rule by which power goes from one dust to another, or none: `Option<DustTransfer>`.
 pub enum DustTransfer {
@@ -138,43 +137,4 @@ pub fn dust_transmits(profile: &[u8], table: &[u8], source: Pos, sink: Pos) -> b
     ensures { λ r. ⌜ r ≡ dustTransmits (now (profile .entry)) (now (table .entry)) source sink ⌝ }
 {
     is_transfer(dust_transfer(profile, table, source, sink))
-}
-
-// Whether a rule fits along the facing.
-fn fits_along(profile: &[u8], table: &[u8], j: usize, i: usize, facing: u8) -> bool
-    ensures { λ r. ⌜ r ≡ isTransfer (ruleAlong (armOf (now (profile .entry)) (now (table .entry))) (now (profile .entry)) (now (table .entry)) j i facing) ⌝ }
-{
-    if fits_horizontal(profile, table, j, i, facing) {
-        return true;
-    }
-    if fits_rise(profile, table, j, i, facing) {
-        return true;
-    }
-    fits_fall(profile, table, j, i, facing)
-}
-
-// Whether a rule fits along any facing.
-fn fits_any(profile: &[u8], table: &[u8], j: usize, i: usize) -> bool
-    ensures { λ r. ⌜ r ≡ isTransfer (firstRule (ruleAlong (armOf (now (profile .entry)) (now (table .entry))) (now (profile .entry)) (now (table .entry)) j i) horizontals) ⌝ }
-{
-    if fits_along(profile, table, j, i, Facing::NORTH) {
-        return true;
-    }
-    if fits_along(profile, table, j, i, Facing::EAST) {
-        return true;
-    }
-    if fits_along(profile, table, j, i, Facing::SOUTH) {
-        return true;
-    }
-    fits_along(profile, table, j, i, Facing::WEST)
-}
-
-// Whether dust of row j transmits to dust of row i. Settling has the rows and asks this very often, so that there is no look-up.
-pub fn transmits(profile: &[u8], table: &[u8], j: usize, i: usize) -> bool
-    ensures { λ r. ⌜ r ≡ transmits (now (profile .entry)) (now (table .entry)) j i ⌝ }
-{
-    if are_dust(table, j, i) {
-        return fits_any(profile, table, j, i);
-    }
-    false
 }

@@ -4,11 +4,11 @@ use borrow.Author.Needs.{needs}
 use Rattle.comparator.proofs.next_comparator.Statement.{statement}
 use Rattle.comparator.proofs.next_comparator.Tie as tie
 
-rear-level-requires : tie.Need-rear-level-requires
-rear-level-requires c κs = search needs
+input-row-requires : tie.Need-input-row-requires
+input-row-requires c κs = search needs
 
-sides-of-requires : tie.Need-sides-of-requires
-sides-of-requires c κs = search needs
+level-at-requires : tie.Need-level-at-requires
+level-at-requires c κs = search needs
 
 side-level-requires : tie.Need-side-level-requires
 side-level-requires c κs = search needs
@@ -27,8 +27,8 @@ pub next-comparator-spec : {M : Type 1} → statement M
 next-comparator-spec =
     tie.close
     (tie.spec
-    rear-level-requires
-    sides-of-requires
+    input-row-requires
+    level-at-requires
     side-level-requires
     is-subtract-requires
     compared-requires

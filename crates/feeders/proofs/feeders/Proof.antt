@@ -30,8 +30,8 @@ enum-told-2 c = search needs
 passed : (c : tie.After-enum-told2) → Given (c .before .before .before .before .before .before .args .profile .now) (c .before .before .before .before .before .before .args .table .now) (length (c .before .before .before .before .before .before .args .list .now))
 passed c = given _ _ _ (sym (c .before .before .check-feeders .ensures) ∙ c .enum-told2 .given .1)
 
-write-list-requires : tie.Need-write-list-requires
-write-list-requires c κs = let g = passed (c .before) in (accepted-input _ _ (g .input) .1, g .list-long)
+write-table-requires : tie.Need-write-table-requires
+write-table-requires c κs = let g = passed (c .before) in (accepted-input _ _ (g .input) .1, g .list-long)
 
 rows-requires : tie.Need-rows-requires
 rows-requires c κs = search needs
@@ -47,7 +47,7 @@ same-length c = search needs
 returns-2 : tie.Need-returns-2
 returns-2 c =
     let accepted = feeders-accepted _ _ _ (passed (c .before .before .before .before .before)) in
-    record { answer = rw accepted (c .rows .ensures); entries = rw accepted (c .before .before .before .write-list .ensures) }
+    record { answer = rw accepted (c .rows .ensures); entries = rw accepted (c .before .before .before .write-table .ensures) }
 
 pub feeders-spec : {M : Type 1} → statement M
 feeders-spec =
@@ -58,7 +58,7 @@ feeders-spec =
     answer-requires
     returns
     enum-told-2
-    write-list-requires
+    write-table-requires
     rows-requires
     cast-result
     same-length

@@ -5,11 +5,8 @@ use borrow.Author.Needs.{needs}
 use Rattle.repeater.proofs.is_requested.Statement.{statement}
 use Rattle.repeater.proofs.is_requested.Tie as tie
 
-input-of-requires : tie.Need-input-of-requires
-input-of-requires c κs = search needs
-
-find-at-requires : tie.Need-find-at-requires
-find-at-requires c κs = search needs
+input-row-requires : tie.Need-input-row-requires
+input-row-requires c κs = search needs
 
 enum-known-j : tie.Need-enum-known-j
 enum-known-j c = search needs
@@ -19,21 +16,20 @@ enum-told c = search needs
 
 returns : tie.Need-returns
 unfolding isRequested
-returns c = rw (← c .before .before .before .input-of .ensures, sym (c .before .before .find-at .ensures) ∙ c .enum-told .given .1)
+returns c = rw (sym (c .before .before .input-row .ensures) ∙ c .enum-told .given .1)
 
 repeater-input-level-requires : tie.Need-repeater-input-level-requires
 repeater-input-level-requires c κs = search needs
 
 returns-2 : tie.Need-returns-2
 unfolding isRequested
-returns-2 c = rw (← c .before .before .before .before .before .input-of .ensures, sym (c .before .before .before .before .find-at .ensures) ∙ c .before .before .j .given .1) (cc)
+returns-2 c = rw (sym (c .before .before .before .before .input-row .ensures) ∙ c .before .before .j .given .1) (cc)
 
 pub is-requested-spec : {M : Type 1} → statement M
 is-requested-spec =
     tie.close
     (tie.spec
-    input-of-requires
-    find-at-requires
+    input-row-requires
     enum-known-j
     enum-told
     returns

@@ -1,41 +1,29 @@
--- `repeater::locks_from` meets its contract, by what the look-up finds. Assumes nothing.
-use mathlib.Core.Path.{sym, _∙_}
-use Rattle.repeater.specs.Step.{locksFrom}
+-- `repeater::locks_from` meets its contract, by what was found. Assumes nothing.
 use borrow.Author.Needs.{needs}
 use Rattle.repeater.proofs.locks_from.Statement.{statement}
 use Rattle.repeater.proofs.locks_from.Tie as tie
 
-find-requires : tie.Need-find-requires
-find-requires c κs = search needs
-
-enum-known-j : tie.Need-enum-known-j
-enum-known-j c = search needs
+enum-known-side : tie.Need-enum-known-side
+enum-known-side c = search needs
 
 enum-told : tie.Need-enum-told
 enum-told c = search needs
 
 returns : tie.Need-returns
-unfolding locksFrom
-returns c = rw (sym (c .before .before .find .ensures) ∙ c .enum-told .given .1)
+returns c = search needs
 
-outputs-to-requires : tie.Need-outputs-to-requires
-outputs-to-requires c κs = search needs
+outputs-into-requires : tie.Need-outputs-into-requires
+outputs-into-requires c κs =
+    let a = c .before .before .before .before .before .before in
+    (record { table = a .pre .0 .table; by = a .pre .0 .by; inside = rw (c .before .side .given .1) at (a .pre .1) }, a .pre .0 .inside)
 
 byte-at-requires : tie.Need-byte-at-requires
 byte-at-requires c κs = search needs
 
 returns-2 : tie.Need-returns-2
-unfolding locksFrom
-returns-2 c = rw (sym (c .before .before .before .before .before .find .ensures) ∙ c .before .before .before .j .given .1) (cc (c .before .outputs-to .ensures))
+returns-2 c = rw (c .before .before .before .side .given .1) (cc (c .before .outputs-into .ensures))
 
 pub locks-from-spec : {M : Type 1} → statement M
 locks-from-spec =
     tie.close
-    (tie.spec
-    find-requires
-    enum-known-j
-    enum-told
-    returns
-    outputs-to-requires
-    byte-at-requires
-    returns-2)
+    (tie.spec enum-known-side enum-told returns outputs-into-requires byte-at-requires returns-2)

@@ -1,85 +1,66 @@
--- `replace::update_list` meets its contract. The loop's invariant: of the rows passed, the entries are those of the updated list. Assumes nothing.
-use mathlib.Core.Path.{_≡_, refl, sym, _∙_}
-use mathlib.Core.Logic.{⊎-elim}
+-- `replace::update_list` meets its contract. Assumes nothing.
+use mathlib.Core.Path.{_∙_}
 use Prim.Native.Nat.{_*_, _-_, _≤_}
 use native.Mathlib.Omega.{arith}
-use lib.ListN.{length}
+use lib.ListN.{replicate}
+use lib.Seq.{length-take-le}
 use borrow.Author.Needs.{needs}
-use borrow.Rule.Slice.PartMut.{same-len-mid}
-use Rattle.columns.proofs.Parts.{length-part, Written, written-none, written-more, written-skip, written-all}
-use Rattle.world.specs.Rows.{rows}
-use Rattle.feeding.specs.Feeders.{feederEntries}
-use Rattle.feeding.specs.Replaced.{updatedEntries, updatedList}
-use Rattle.feeding.proofs.Listed.{entries-twelve}
 use Rattle.replace.proofs.update_list.Statement.{statement}
 use Rattle.replace.proofs.update_list.Tie as tie
 
-abbrev Inv-loop : tie.InvT-loop
-Inv-loop profile table n list₀ i₀ i-end list i = (i ≤ rows table) × (length list ≡ length list₀) × Written 12 (updatedEntries profile table n list₀) list₀ i list
-
-abbrev μ-loop : tie.MeasureT-loop
-μ-loop profile table n list₀ i₀ i-end list i = rows table - i
-
-rows-requires : tie.Need-rows-requires Inv-loop μ-loop
+rows-requires : tie.Need-rows-requires
 rows-requires c κs = search needs
 
-loop-holds : tie.Need-loop-holds Inv-loop μ-loop
-loop-holds c = (omega arith, refl, written-none)
+mul-update-in : tie.Need-mul-update-in
+mul-update-in c = search needs
 
-is-renewed-requires : tie.Need-is-renewed-requires Inv-loop μ-loop
-is-renewed-requires c κs = search needs
+sub-update-in : tie.Need-sub-update-in
+sub-update-in c = search needs
 
-write-row-requires : tie.Need-write-row-requires Inv-loop μ-loop
-write-row-requires c κs =
-    let l = c .before .before .before .before in
-    let (table, long) = l .before .before .before .before .before .pre in
-    (table, omega arith, l .loop .inv .1 ∙ long)
+part-near-start : tie.Need-part-near-start
+part-near-start c = search needs
 
-add-i : tie.Need-add-i Inv-loop μ-loop
-add-i c = search needs
+part-near-end : tie.Need-part-near-end
+part-near-end c = search needs
 
-loop-less : tie.Need-loop-less Inv-loop μ-loop
-loop-less c = omega arith
+sub-update-in-2 : tie.Need-sub-update-in-2
+sub-update-in-2 c = search needs
 
-loop-again : tie.Need-loop-again Inv-loop μ-loop
-unfolding updatedEntries
-loop-again c =
-    let l = c .before .before .before in
-    let a = l .before .before .before .before .before .args in
-    let (table, long) = l .before .before .before .before .before .pre in
-    let renewed = c .before .is-renewed .ensures in
-    ⊎-elim
-    (λ w.
-    rw (w .5 ∙ w .2 .ensures) (
-      omega arith,
-      same-len-mid (l .loop .i * 12) 12 (l .loop .list) (feederEntries (a .profile .now) (a .table .now) (l .loop .i)) (entries-twelve (a .profile .now) (a .table .now) table (l .loop .i) (omega arith) ∙ sym (length-part 12 (l .loop .list) (l .loop .i) (omega (arith, l .loop .inv .1)))) ∙ l .loop .inv .1,
-      written-more (l .loop .inv .2) {r = feederEntries (a .profile .now) (a .table .now) (l .loop .i)} (rw (← renewed, w .0 .taken)) (entries-twelve (a .profile .now) (a .table .now) table (l .loop .i) (omega arith)),
-    ))
-    (λ w. rw (w .1) (omega arith, l .loop .inv .1, written-skip (l .loop .inv .2) (rw (← renewed, w .0 .left)) (omega arith)))
-    (c .if1 .came)
+part-class-start : tie.Need-part-class-start
+part-class-start c = search needs
 
-same-length : tie.Need-same-length Inv-loop μ-loop
-same-length c = c .before .loop .inv .1
+part-class-end : tie.Need-part-class-end
+part-class-end c = search needs
 
-returns : tie.Need-returns Inv-loop μ-loop
-unfolding updatedList
-returns c =
-    let l = c .before in
-    let (_, long) = l .before .before .before .before .before .pre in
-    written-all (l .loop .inv .2) _ (omega (arith, l .loop .inv .0)) long
+update-in-requires : tie.Need-update-in-requires
+update-in-requires c κs =
+    let n = c .before .before .before .rows in
+    let (table, long) = c .before .before .before .before .before .before .before .pre in
+    let few : n .result ≤ 1024 = omega (arith, n .ensures, table .few) in (
+      table,
+      length-take-le (7 * n .result - 0) (replicate 7168 0) (omega arith) ∙ omega (arith, n .ensures),
+      length-take-le (n .result - 0) (replicate 1024 0) (omega arith) ∙ omega (arith, n .ensures),
+      long,
+    )
+
+same-length : tie.Need-same-length
+same-length c = search needs
+
+returns : tie.Need-returns
+returns c = search needs
 
 pub update-list-spec : {M : Type 1} → statement M
 update-list-spec =
     tie.close
     (tie.spec
-    Inv-loop
-    μ-loop
     rows-requires
-    loop-holds
-    is-renewed-requires
-    write-row-requires
-    add-i
-    loop-less
-    loop-again
+    mul-update-in
+    sub-update-in
+    part-near-start
+    part-near-end
+    sub-update-in-2
+    part-class-start
+    part-class-end
+    update-in-requires
     same-length
     returns)

@@ -9,8 +9,11 @@ same-requires c κs = search needs
 same-requires-2 : tie.Need-same-requires-2
 same-requires-2 c κs = search needs
 
+none-mapped-requires : tie.Need-none-mapped-requires
+none-mapped-requires c κs = search needs
+
 returns : tie.Need-returns
-returns c = rw (c .before .same .ensures, c .same2 .ensures)
+returns c = rw (c .before .before .same .ensures, c .before .same2 .ensures, c .none-mapped .ensures)
 
 pub answers-spec : {M : Type 1} → statement M
-answers-spec = tie.close (tie.spec same-requires same-requires-2 returns)
+answers-spec = tie.close (tie.spec same-requires same-requires-2 none-mapped-requires returns)

@@ -1,53 +1,24 @@
--- `round::next_signals` meets its contract. The loop's invariant: the first i rows are the rule's. Assumes nothing.
+-- `round::next_signals` meets its contract. Assumes nothing.
 use borrow.Author.Needs.{needs}
-use Prim.Native.Nat.{_-_}
-use lib.ListN.{length}
-use Rattle.columns.proofs.Columns.{Filled, fills}
-use Rattle.round.specs.Round.{nextSignal}
+use Rattle.round.proofs.Next.{signals-next}
 use Rattle.round.proofs.next_signals.Statement.{statement}
 use Rattle.round.proofs.next_signals.Tie as tie
 
-abbrev Inv-loop : tie.InvT-loop
-Inv-loop table emitted direct feeders signal out₀ i₀ i-end out i = Filled (nextSignal table emitted direct feeders signal) (length out₀) i out
+copy-requires : tie.Need-copy-requires
+copy-requires c κs = search needs
 
-abbrev μ-loop : tie.MeasureT-loop
-μ-loop table emitted direct feeders signal out₀ i₀ i-end out i = length out₀ - i
+spread-requires : tie.Need-spread-requires
+spread-requires c κs = search needs
 
-loop-holds : tie.Need-loop-holds Inv-loop μ-loop
-loop-holds c = search (fills, needs)
+make-signals-requires : tie.Need-make-signals-requires
+make-signals-requires c κs = search needs
 
-next-signal-requires : tie.Need-next-signal-requires Inv-loop μ-loop
-next-signal-requires c κs = search needs
-
-slice-write-out : tie.Need-slice-write-out Inv-loop μ-loop
-slice-write-out c = search needs
-
-add-i : tie.Need-add-i Inv-loop μ-loop
-add-i c = search needs
-
-loop-less : tie.Need-loop-less Inv-loop μ-loop
-loop-less c = search needs
-
-loop-again : tie.Need-loop-again Inv-loop μ-loop
-loop-again c = search (fills, needs)
-
-same-length : tie.Need-same-length Inv-loop μ-loop
+same-length : tie.Need-same-length
 same-length c = search needs
 
-returns : tie.Need-returns Inv-loop μ-loop
-returns c = search (fills, needs)
+returns : tie.Need-returns
+returns c = search (signals-next, needs)
 
 pub next-signals-spec : {M : Type 1} → statement M
 next-signals-spec =
-    tie.close
-    (tie.spec
-    Inv-loop
-    μ-loop
-    loop-holds
-    next-signal-requires
-    slice-write-out
-    add-i
-    loop-less
-    loop-again
-    same-length
-    returns)
+    tie.close (tie.spec copy-requires spread-requires make-signals-requires same-length returns)

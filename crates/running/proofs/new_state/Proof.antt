@@ -1,25 +1,40 @@
 -- `running::new_state` meets its contract. Assumes nothing.
-use mathlib.Core.Path.{refl}
+use Rattle.refusals.specs.Accepted.{Table}
 use Rattle.refusals.proofs.Accepted.{accepted-input}
-use Rattle.running.proofs.Running.{lengths-kept}
-use Rattle.running.proofs.Valid.{fresh-devices-valid}
-use Rattle.updates.specs.State.{freshState}
+use Rattle.running.proofs.Running.{few-near, near-front, few-class, class-front, room}
 use borrow.Author.Needs.{needs}
 use Rattle.running.proofs.new_state.Statement.{statement}
 use Rattle.running.proofs.new_state.Tie as tie
 
-fill-fresh-devices-requires : tie.Need-fill-fresh-devices-requires
-fill-fresh-devices-requires c κs = c .before .before .before .before .before .before .before .before .pre .2 .device-rows
+-- where the call starts, from where its rows are counted
+abbrev begun : (c : tie.After-rows) → tie.Start
+begun c = c .before .before .before .before .before .before .before .before
 
-settle-requires : tie.Need-settle-requires
-settle-requires c κs =
-    let after = c .before .before .before .before .before .before in
-    let s = after .before .before .before .before .before .before .before .before .before in
-    let filled = after .fill-fresh-devices in
-    (s .pre .0, rw (filled .ensures) (fresh-devices-valid _ (accepted-input _ _ (s .pre .0) .1)), lengths-kept (s .pre .2) (filled .kept .1 .0) refl refl refl)
+accepted : (c : tie.After-rows) → Table (begun c .args .table .now)
+accepted c = let start = begun c in accepted-input _ _ (start .pre .0) .1
 
-fill-fresh-requires : tie.Need-fill-fresh-requires
-fill-fresh-requires c κs = search needs
+rows-requires : tie.Need-rows-requires
+rows-requires c κs = search needs
+
+mul-near : tie.Need-mul-near
+mul-near c = search needs
+
+array-borrow-prefix-near : tie.Need-array-borrow-prefix-near
+array-borrow-prefix-near c = few-near (accepted c) (c .rows .ensures)
+
+slice-aggregate-new-state-in : tie.Need-slice-aggregate-new-state-in
+slice-aggregate-new-state-in c = near-front (accepted (c .before)) (c .before .rows .ensures)
+
+array-borrow-prefix-class : tie.Need-array-borrow-prefix-class
+array-borrow-prefix-class c = few-class (accepted (c .before)) (c .before .rows .ensures)
+
+slice-aggregate-new-state-in-2 : tie.Need-slice-aggregate-new-state-in-2
+slice-aggregate-new-state-in-2 c = class-front (accepted (c .before .before)) (c .before .before .rows .ensures)
+
+new-state-in-requires : tie.Need-new-state-in-requires
+new-state-in-requires c κs = let after = c .before .before .before .before .before .before .before in
+    let start = begun after in
+    (start .pre .0, start .pre .1, start .pre .2, room (accepted after) (after .rows .ensures))
 
 same-length : tie.Need-same-length
 same-length c = search needs
@@ -37,22 +52,19 @@ same-length-5 : tie.Need-same-length-5
 same-length-5 c = search needs
 
 returns : tie.Need-returns
-unfolding freshState
-returns c =
-    let last = c .before .before in
-    let after = last .before .before .before .before .before .before .before .before .before .before in
-    let filled = after .before .before .before .before .before .before .before .fill-fresh-devices .ensures in
-    let done = after .settle .ensures in
-    let holds = rw filled at (done .1) in
-    (rw (holds .weaks, holds .strongs) at (last .fill-fresh .ensures), (rw filled at (done .0), holds))
+returns c = search needs
 
 pub new-state-spec : {M : Type 1} → statement M
 new-state-spec =
     tie.close
     (tie.spec
-    fill-fresh-devices-requires
-    settle-requires
-    fill-fresh-requires
+    rows-requires
+    mul-near
+    array-borrow-prefix-near
+    slice-aggregate-new-state-in
+    array-borrow-prefix-class
+    slice-aggregate-new-state-in-2
+    new-state-in-requires
     same-length
     same-length-2
     same-length-3

@@ -1,95 +1,70 @@
--- `running::settle_ticks` meets its contract. The loop's invariant: so many ticks are done. Assumes nothing.
-use mathlib.Core.Path.{_≡_, sym, _∙_}
-use Prim.Native.Nat.{_-_, _≤_}
-use native.Mathlib.Omega.{arith}
-use Rattle.running.specs.Running.{ColumnLengths}
-use Rattle.running.proofs.Running.{lengths-kept, ready, Ticking, ticking-none, ticking-valid, ticking-long, ticking-more}
+-- `running::settle_ticks` meets its contract. Assumes nothing.
+use Rattle.refusals.specs.Accepted.{Table}
+use Rattle.refusals.proofs.Accepted.{accepted-input}
+use Rattle.running.proofs.Running.{few-near, near-front, few-class, class-front, room}
+use borrow.Author.Needs.{needs}
 use Rattle.running.proofs.settle_ticks.Statement.{statement}
 use Rattle.running.proofs.settle_ticks.Tie as tie
 
-abbrev Inv-loop : tie.InvT-loop
-Inv-loop profile table count state₀ devices₀ signal₀ weak₀ strong₀ rounds₀ done₀ state devices signal weak strong rounds done = (done ≤ count) × ColumnLengths table devices signal weak strong × Ticking done profile table state₀ state devices signal weak strong rounds
+-- where the call starts, from where its rows are counted
+abbrev begun : (c : tie.After-rows) → tie.Start
+begun c = c .before .before .before .before .before .before .before .before
 
-abbrev μ-loop : tie.MeasureT-loop
-μ-loop profile table count state₀ devices₀ signal₀ weak₀ strong₀ rounds₀ done₀ state devices signal weak strong rounds done = count - done
+accepted : (c : tie.After-rows) → Table (begun c .args .table .now)
+accepted c = let start = begun c in accepted-input _ _ (start .pre .0) .1
 
--- where the call starts, from its first settling and from the loop
-abbrev begun : (c : tie.After-settle-state Inv-loop μ-loop) → tie.Start Inv-loop μ-loop
-begun c = c .before .before .before .before .before .before .before .before .before .before .before .before .before
+rows-requires : tie.Need-rows-requires
+rows-requires c κs = search needs
 
-abbrev start : (c : tie.At-loop Inv-loop μ-loop) → tie.Start Inv-loop μ-loop
-start c = begun (c .before .before .before .before .before .before .before .before .before)
+mul-near : tie.Need-mul-near
+mul-near c = search needs
 
--- the loop's test, from the tick that follows it
-abbrev tested : (c : tie.After-advance-tick Inv-loop μ-loop) → tie.In-loop Inv-loop μ-loop
-tested c = c .before .before .before .before .before .before
+array-borrow-prefix-near : tie.Need-array-borrow-prefix-near
+array-borrow-prefix-near c = few-near (accepted c) (c .rows .ensures)
 
-settle-state-requires : tie.Need-settle-state-requires Inv-loop μ-loop
-settle-state-requires c κs = let s = c .before .before .before .before .before .before .before .before .before .before .before .before in (ready _ _ _ (s .pre .0) (s .pre .1), s .pre .2)
+slice-aggregate-settle-ticks-in : tie.Need-slice-aggregate-settle-ticks-in
+slice-aggregate-settle-ticks-in c = near-front (accepted (c .before)) (c .before .rows .ensures)
 
-loop-holds : tie.Need-loop-holds Inv-loop μ-loop
-loop-holds c =
-    let settled = c .before .before .before .before .before .before .before .before in
-    let call = settled .settle-state in
-    (omega arith, lengths-kept (begun settled .pre .2) (call .kept .1 .1 .1 .0) (call .kept .1 .1 .1 .1 .0) (call .kept .1 .1 .1 .1 .1 .0) (call .kept .1 .1 .1 .1 .1 .1 .0), ticking-none (call .ensures .0) (call .ensures .1))
+array-borrow-prefix-class : tie.Need-array-borrow-prefix-class
+array-borrow-prefix-class c = few-class (accepted (c .before)) (c .before .rows .ensures)
 
-advance-tick-requires : tie.Need-advance-tick-requires Inv-loop μ-loop
-advance-tick-requires c κs =
-    let l = c .before .before .before .before .before .before in
-    let s = start l in
-    ((s .pre .0, ticking-valid (l .loop .inv .2) (s .pre .1)), (l .loop .inv .1, l .loop .inv .2 .columns))
+slice-aggregate-settle-ticks-in-2 : tie.Need-slice-aggregate-settle-ticks-in-2
+slice-aggregate-settle-ticks-in-2 c = class-front (accepted (c .before .before)) (c .before .before .rows .ensures)
 
-add-done : tie.Need-add-done Inv-loop μ-loop
-add-done c =
-    let t = tested (c .before .before .before .before .before .before .before .before .before .before) in
-    omega (arith, t .before .loop .inv .0, t .loop-test .taken, start (t .before) .fits .count)
+settle-ticks-in-requires : tie.Need-settle-ticks-in-requires
+settle-ticks-in-requires c κs = let after = c .before .before .before .before .before .before .before in
+    let start = begun after in
+    (start .pre .0, start .pre .1, start .pre .2, room (accepted after) (after .rows .ensures))
 
-loop-less : tie.Need-loop-less Inv-loop μ-loop
-loop-less c = omega (arith, tested (c .before .before .before .before .before .before .before .before .before .before) .loop-test .taken)
+same-length : tie.Need-same-length
+same-length c = search needs
 
-loop-again : tie.Need-loop-again Inv-loop μ-loop
-loop-again c =
-    let ticked = c .before .before .before .before .before .before .before .before .before .before in
-    let call = ticked .advance-tick in
-    let next = call .ensures in
-    let t = tested ticked in
-    let l = t .before in
-    (omega (arith, t .loop-test .taken), lengths-kept (l .loop .inv .1) (call .kept .1 .1 .1 .0) (call .kept .1 .1 .1 .1 .0) (call .kept .1 .1 .1 .1 .1 .0) (call .kept .1 .1 .1 .1 .1 .1 .0), ticking-more (l .loop .inv .2) (record { state = next .0; rounds = next .1 .0; columns = next .1 .1 }))
+same-length-2 : tie.Need-same-length-2
+same-length-2 c = search needs
 
-same-length : tie.Need-same-length Inv-loop μ-loop
-same-length c = ticking-long (c .before .loop .inv .2) (start (c .before) .pre .1)
+same-length-3 : tie.Need-same-length-3
+same-length-3 c = search needs
 
-same-length-2 : tie.Need-same-length-2 Inv-loop μ-loop
-same-length-2 c = c .before .loop .inv .1 .device-rows ∙ sym (start (c .before) .pre .2 .device-rows)
+same-length-4 : tie.Need-same-length-4
+same-length-4 c = search needs
 
-same-length-3 : tie.Need-same-length-3 Inv-loop μ-loop
-same-length-3 c = c .before .loop .inv .1 .signal-rows ∙ sym (start (c .before) .pre .2 .signal-rows)
+same-length-5 : tie.Need-same-length-5
+same-length-5 c = search needs
 
-same-length-4 : tie.Need-same-length-4 Inv-loop μ-loop
-same-length-4 c = c .before .loop .inv .1 .weak-rows ∙ sym (start (c .before) .pre .2 .weak-rows)
-
-same-length-5 : tie.Need-same-length-5 Inv-loop μ-loop
-same-length-5 c = c .before .loop .inv .1 .strong-rows ∙ sym (start (c .before) .pre .2 .strong-rows)
-
-returns : tie.Need-returns Inv-loop μ-loop
-returns c =
-    let l = c .before in
-    let all : l .loop .done ≡ start l .args .count = omega (arith, l .loop .inv .0, c .loop-test .left) in
-    let g = l .loop .inv .2 in
-    (rw all at (g .state), (g .rounds, g .columns))
+returns : tie.Need-returns
+returns c = search needs
 
 pub settle-ticks-spec : {M : Type 1} → statement M
 settle-ticks-spec =
     tie.close
     (tie.spec
-    Inv-loop
-    μ-loop
-    settle-state-requires
-    loop-holds
-    advance-tick-requires
-    add-done
-    loop-less
-    loop-again
+    rows-requires
+    mul-near
+    array-borrow-prefix-near
+    slice-aggregate-settle-ticks-in
+    array-borrow-prefix-class
+    slice-aggregate-settle-ticks-in-2
+    settle-ticks-in-requires
     same-length
     same-length-2
     same-length-3

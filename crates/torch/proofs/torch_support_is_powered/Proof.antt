@@ -5,11 +5,8 @@ use borrow.Author.Needs.{needs}
 use Rattle.torch.proofs.torch_support_is_powered.Statement.{statement}
 use Rattle.torch.proofs.torch_support_is_powered.Tie as tie
 
-support-pos-requires : tie.Need-support-pos-requires
-support-pos-requires c κs = search needs
-
-find-at-requires : tie.Need-find-at-requires
-find-at-requires c κs = search needs
+support-row-requires : tie.Need-support-row-requires
+support-row-requires c κs = search needs
 
 enum-known-j : tie.Need-enum-known-j
 enum-known-j c = search needs
@@ -19,7 +16,7 @@ enum-told c = search needs
 
 returns : tie.Need-returns
 unfolding torchSupportIsPowered
-returns c = rw (← c .before .before .before .support-pos .ensures, sym (c .before .before .find-at .ensures) ∙ c .enum-told .given .1)
+returns c = rw (sym (c .before .before .support-row .ensures) ∙ c .enum-told .given .1)
 
 redstone-traits-requires : tie.Need-redstone-traits-requires
 redstone-traits-requires c κs = search needs
@@ -32,14 +29,13 @@ has-power-requires c κs = search needs
 
 returns-2 : tie.Need-returns-2
 unfolding torchSupportIsPowered
-returns-2 c = rw (← c .before .before .before .before .before .before .before .support-pos .ensures, sym (c .before .before .before .before .before .before .find-at .ensures) ∙ c .before .before .before .before .j .given .1) (cc)
+returns-2 c = rw (sym (c .before .before .before .before .before .before .support-row .ensures) ∙ c .before .before .before .before .j .given .1) (cc)
 
 pub torch-support-is-powered-spec : {M : Type 1} → statement M
 torch-support-is-powered-spec =
     tie.close
     (tie.spec
-    support-pos-requires
-    find-at-requires
+    support-row-requires
     enum-known-j
     enum-told
     returns

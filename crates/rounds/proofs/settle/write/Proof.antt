@@ -28,12 +28,15 @@ same-length-3 : tie.Need-same-length-3
 same-length-3 c = search needs
 
 returns : tie.Need-returns
-returns c = let told = c .before .before .before .before .before .before .before .before .before .before .before .before .enum-told .given in
-    (rw (told .1) (c .before .before .before .before .before .before .before .before .before .before .copy .ensures), (rw (told .1) (c .before .before .before .before .before .before .copy2 .ensures), rw (told .1) (c .before .before .copy3 .ensures)))
+returns c =
+    let third = c .before .before in
+    let second = third .before .before .before .before in
+    let first = second .before .before .before .before in
+    let told = first .before .before .enum-told .given .1 in
+    (rw told (first .copy .ensures), (rw told (second .copy2 .ensures), rw told (third .copy3 .ensures)))
 
 returns-2 : tie.Need-returns-2
-returns-2 c = let told = c .enum-told2 .given in
-    (rw (told .1), (rw (told .1), rw (told .1)))
+returns-2 c = let told = c .enum-told2 .given .1 in (rw told, (rw told, rw told))
 
 pub write-spec : {M : Type 1} → statement M
 write-spec =

@@ -10,10 +10,10 @@ use Rattle.updates.proofs.state.set_devices.Statement.{statement}
 use Rattle.updates.proofs.state.set_devices.Tie as tie
 
 abbrev Inv-loop : tie.InvT-loop
-Inv-loop profile table devices signal weak strong state₀ n i₀ state i = Turns (deviceRow profile table devices (numbers signal weak strong)) table state₀ n i state
+Inv-loop profile table near devices signal weak strong state₀ n i₀ state i = Turns (deviceRow profile table devices (numbers signal weak strong)) table state₀ n i state
 
 abbrev μ-loop : tie.MeasureT-loop
-μ-loop profile table devices signal weak strong state₀ n i₀ state i = n - i
+μ-loop profile table near devices signal weak strong state₀ n i₀ state i = n - i
 
 rows-requires : tie.Need-rows-requires Inv-loop μ-loop
 rows-requires c κs = search needs
@@ -37,7 +37,9 @@ part-device-step-end : tie.Need-part-device-step-end Inv-loop μ-loop
 part-device-step-end c = omega arith
 
 device-step-requires : tie.Need-device-step-requires Inv-loop μ-loop
-device-step-requires c κs = search (turning, needs)
+device-step-requires c κs =
+    let pre = c .before .before .before .before .before .before .before .before .before .before .before .before .pre in
+    (record { table = pre .0; by = pre .1; inside = omega arith }, search (turning, needs))
 
 add-i : tie.Need-add-i Inv-loop μ-loop
 add-i c = omega arith

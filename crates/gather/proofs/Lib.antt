@@ -1,4 +1,0 @@
-pub mod Halving
-pub mod Near
-pub mod Slotted
-pub mod Rising
