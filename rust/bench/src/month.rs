@@ -15,6 +15,11 @@ pub fn streams() -> impl Iterator<Item = (Case, usize)> {
     lines().into_iter().zip([2_000, 50])
 }
 
+/// The same, with more of the larger table, for programs alone.
+pub fn long_streams() -> impl Iterator<Item = (Case, usize)> {
+    lines().into_iter().zip([10_000, 1_000])
+}
+
 /// What the original makes of a table that is given so many times.
 fn by_the_original(oracle: &Oracle, tables: usize) -> String {
     let mut figures = Figures::default();
@@ -41,6 +46,13 @@ pub fn assert_sides_agree(program: &OsStr, case: &Case, tables: usize) {
 pub fn medians_of_streams(program: &OsStr, case: &Case, tables: usize) -> Medians {
     let (oracle, stream) = (Oracle::new(case), stream_of(case, tables));
     medians(|| (), |()| by_the_original(&oracle, tables), || by_the_program(program, &stream))
+}
+
+/// The medians of whole streams by two programs, which are to write the same.
+pub fn medians_of_programs(before: &OsStr, now: &OsStr, case: &Case, tables: usize) -> Medians {
+    let stream = stream_of(case, tables);
+    assert_eq!(by_the_program(before, &stream), by_the_program(now, &stream), "{tables} of {}", case.sort);
+    medians(|| (), |()| by_the_program(before, &stream), || by_the_program(now, &stream))
 }
 
 #[cfg(test)]

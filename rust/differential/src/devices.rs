@@ -21,6 +21,22 @@ pub fn any_device(random: &mut Random, kind: Kind) -> u8 {
     }
 }
 
+/// The device column that a table starts with: "repeater from powered (missing false)", "torch from powered (missing true)",
+/// "comparator from level, else 15 or 0 by powered".
+pub fn first_devices(rows: &[Row]) -> Vec<u8> {
+    rows.iter().map(first_device).collect()
+}
+
+fn first_device(row: &Row) -> u8 {
+    let is_on = row.powered() == Some(true);
+    match row.kind() {
+        Kind::Repeater => is_on.into(),
+        Kind::RedstoneTorch => (row.powered() != Some(false)).into(),
+        Kind::Comparator => row.power_level().unwrap_or(if is_on { 15 } else { 0 }),
+        _ => 0,
+    }
+}
+
 /// Any state that documents 01 and 02 allow, whether a run comes to it or not.
 pub fn any_state(random: &mut Random, rows: &[Row]) -> Vec<u8> {
     rows.iter().flat_map(|row| any_row_state(random, row)).collect()

@@ -2,6 +2,7 @@
 
 mod bulbs;
 mod comparators;
+mod hard;
 mod leaning;
 mod rows;
 mod sorts;
@@ -142,6 +143,18 @@ pub fn case(seed: u64) -> Case {
 /// The accepted case of a seed whose rows hold each other up, or would.
 pub fn leaning_case(seed: u64) -> Case {
     of_sorts(&leaning::SORTS, seed)
+}
+
+/// The accepted case of a seed in which levels come by several ways. Now and then no row but a double slab receives weak power,
+/// or strong power, or either.
+pub fn hard_case(seed: u64) -> Case {
+    let random = &mut Random::new(!seed);
+    let mut case = of_sorts(&hard::SORTS, seed);
+    if random.percent(30) {
+        let received = random.pick(&[2, 4, 2 + 4]);
+        case.profile.iter_mut().for_each(|byte| *byte &= !received);
+    }
+    if random.percent(20) { with_arms(random, case) } else { case }
 }
 
 /// In every other case dust has any arms stored, more of it or less.

@@ -1,7 +1,7 @@
 //! Holds the proved functions of the static libraries `probe` and `redstone`, and the programs `settle` and `month`,
 //! against the original Rust, and look-ups on rows in any order, what a torch charges, the light of bulbs, what is
 //! overdriven, two tables in one, the rows that are cleared, the redraw and the switch in either order and the list of what
-//! feeds dust against document 02.
+//! feeds dust against document 02; and the two ways to settle against each other.
 
 pub mod bulb;
 #[cfg(not(no_original))]
@@ -40,9 +40,11 @@ pub mod report;
 #[cfg(not(no_original))]
 pub mod settle;
 pub mod settling;
+pub mod shapes;
 pub mod suite;
 pub mod table;
 pub mod torch;
+pub mod two_ways;
 #[cfg(not(no_original))]
 pub mod wire;
 #[cfg(not(no_original))]

@@ -55,6 +55,7 @@ c_functions! {
     fn probe_resolved(profile: &[u8], table: &[u8], x: i32, y: i32, z: i32, facing: u32) -> u32;
     fn probe_transfer(profile: &[u8], table: &[u8], x: i32, y: i32, z: i32, x2: i32, y2: i32, z2: i32) -> u32;
     fn probe_redraw(profile: &[u8], table: &mut [u8]) -> u32;
+    fn probe_settle_by_rounds(profile: &[u8], table: &[u8], devices: &[u8], limit: u32, signal: &mut [u8], weak: &mut [u8], strong: &mut [u8]) -> u32;
     fn redstone_clear(profile: &[u8], table: &[u8], kept: &mut [u8], passes: &mut [u16]) -> u32;
     fn redstone_feeders(profile: &[u8], table: &[u8], list: &mut [u16]) -> u32;
     fn redstone_merge(first: &[u8], second: &[u8], dx: i32, dy: i32, dz: i32, out: &mut [u8]) -> u32;

@@ -6,7 +6,8 @@ use differential::generate::{BENCH_PROFILE, Case};
 use differential::lent::{Entry, GUARDS, Lent};
 use differential::merge::OUT_BYTES;
 use differential::probe::{
-    probe_support_issues, redstone_clear, redstone_feeders, redstone_merge, redstone_replace,
+    probe_settle_by_rounds, probe_support_issues, redstone_clear, redstone_feeders, redstone_merge,
+    redstone_replace,
 };
 use redstone::{Columns, Kind, Row};
 
@@ -38,8 +39,19 @@ fn a_write_of_any_bit_is_noticed() {
     assert_each_write_is_noticed(|entry: u16| (0..16).map(|bit| entry ^ 1 << bit).collect());
 }
 
-/// The proved settling, over a signal column that begins so many entries late or ends so many early.
-fn signal_outside(late: usize, early: usize) -> Vec<(isize, u16)> {
+/// A proved settling.
+type Settle = fn(&Case, &[u8], Columns) -> u32;
+
+fn in_one_pass(case: &Case, devices: &[u8], columns: Columns) -> u32 {
+    redstone::settle(&case.profile, &case.table, devices, 128, columns).expect("the line settles").get()
+}
+
+fn by_rounds(case: &Case, devices: &[u8], Columns { signal, weak, strong }: Columns) -> u32 {
+    probe_settle_by_rounds(&case.profile, &case.table, devices, 128, signal, weak, strong)
+}
+
+/// The settling, over a signal column that begins so many entries late or ends so many early.
+fn signal_outside(settle: Settle, late: usize, early: usize) -> Vec<(isize, u16)> {
     let case = Case::line("line", 2);
     let rows = case.rows();
     let mut signal = Lent::untouched(rows - late - early);
@@ -49,16 +61,18 @@ fn signal_outside(late: usize, early: usize) -> Vec<(isize, u16)> {
         weak: weak.entries(),
         strong: strong.entries(),
     };
-    redstone::settle(&case.profile, &case.table, &vec![0; rows], 128, columns).expect("the line settles");
+    assert_eq!(settle(&case, &vec![0; rows], columns), 4);
     assert!([weak, strong].into_iter().all(|column| column.returned().outside.is_empty()));
     signal.returned().outside
 }
 
 #[test]
 fn a_call_that_writes_a_byte_outside_is_noticed() {
-    assert_eq!(signal_outside(0, 0), []);
-    assert_eq!(signal_outside(1, 0), [(-1, 15)]);
-    assert_eq!(signal_outside(0, 1), [(4, 14)]);
+    for settle in [in_one_pass, by_rounds] {
+        assert_eq!(signal_outside(settle, 0, 0), []);
+        assert_eq!(signal_outside(settle, 1, 0), [(-1, 15)]);
+        assert_eq!(signal_outside(settle, 0, 1), [(4, 14)]);
+    }
 }
 
 /// The same of the support list of three dust in the air.

@@ -232,9 +232,10 @@ fn a_packed_table_and_one_without_expectations_are_ok() {
 fn progress_is_for_a_terminal() {
     let has_script =
         Command::new("script").arg("--version").output().is_ok_and(|found| found.status.success());
-    for ticks in [100_000, 300_000, 1_000_000] {
-        let name =
-            file("check_progress", "long.hall", with(&format!("expect tick {ticks} lamp 0,0,0 dark\n")));
+    let dark = |ticks| format!("expect tick {ticks} lamp 0,0,0 dark\n");
+    let solid = |rows| (0..rows).map(|z| format!("9,0,{z} Solid\n")).collect::<String>();
+    for (rows, ticks) in [(0, 100_000), (0, 1_000_000), (1_000, 200_000)] {
+        let name = file("check_progress", "long.hall", with(&(solid(rows) + &dark(ticks))));
         assert_eq!(hall(&["check", &name]).err, "");
         if !has_script {
             return;
@@ -247,5 +248,5 @@ fn progress_is_for_a_terminal() {
             return;
         }
     }
-    panic!("a million ticks were run before a terminal saw how far it is");
+    panic!("200,000 ticks of a thousand rows were run before a terminal saw how far it is");
 }
