@@ -1,4 +1,6 @@
 // The rows by each row of a table: those to the South and East of it and above it are found along the rows, and those at the opposite places by inverses.
+#![tactic(auto)]
+
 ghost use Rattle.std.specs.Prelude.{◌≡◌, ◌*◌, ◌<◌, length};
 ghost use Rattle.world.specs.Rows.{rows};
 ghost use Rattle.refusals.specs.Accepted.{Table};

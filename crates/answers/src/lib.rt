@@ -1,4 +1,6 @@
 // Whether the proved functions of rows, traits, names and positions answer as the original did. Each function takes the parts of its operation's record.
+#![tactic(auto)]
+
 pub mod right;
 
 ghost use Rattle.std.specs.Prelude.{◌≡◌, ◌<◌, ℤ};

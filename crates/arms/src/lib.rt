@@ -1,4 +1,6 @@
 // The arms of dust, stored or inferred: 1 None, 2 Side, 3 Up. A facing is its number in byte 13 of a row.
+#![tactic(auto)]
+
 ghost use Rattle.std.specs.Prelude.{◌≡◌};
 ghost use Rattle.arms.specs.Arms.{connects, component_connects, joins, rises, drops, infer_past, infer_wire_connection, arm_of, has_arm, resolved_wire_connection, wire_has_arm};
 

@@ -1,4 +1,6 @@
 // The kinds of block, and their properties by the profile that each call is given.
+#![tactic(auto)]
+
 pub mod kind;
 
 ghost use Rattle.std.specs.Prelude.{◌≡◌};

@@ -1,4 +1,6 @@
 // A bulb's step.
+#![tactic(auto)]
+
 ghost use Rattle.std.specs.Prelude.{◌≡◌, length};
 ghost use Rattle.bulb.specs.Step.{next_bulb_light, bulb_row};
 

@@ -1,5 +1,7 @@
 // Whether settle and fresh answer and write as the original did. Each function takes a record of its operation, makes the call that it tells of,
 // and compares the answer and every byte of every buffer with the recorded ones.
+#![tactic(auto)]
+
 ghost use Rattle.std.specs.Prelude.{◌≡◌};
 ghost use Rattle.calls.specs.Calls.{settle_in, settle_right, fresh_in, fresh_right};
 

@@ -3,3 +3,4 @@
 // proofs/LookUps.antt. Of document 02, torches that charge the block above stand in proofs/Torches.antt, bulbs in proofs/Bulbs.antt, levels above 15 in
 // proofs/Overdriven.antt, merges in proofs/Merges.antt, clearings in proofs/Clears.antt, redraws around a switch in proofs/Orders.antt, and feeder lists
 // in proofs/Feeders.antt.
+#![tactic(auto)]

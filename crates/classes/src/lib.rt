@@ -1,4 +1,6 @@
 // The parts of a class, and what a row of a class does towards its places.
+#![tactic(auto)]
+
 pub mod towards;
 
 ghost use Rattle.std.specs.Prelude.{◌≡◌, ◌≤◌};

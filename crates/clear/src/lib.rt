@@ -1,5 +1,7 @@
 // A table cleared of the rows that would drop. What holds each row up is looked up once. Which rows are left is read from the column of passes itself:
 // a row without a mark has not gone.
+#![tactic(auto)]
+
 ghost use Rattle.std.specs.Prelude.{◌≡◌, ◌&&◌, ℕ, ◌≤◌, ◌<◌, length, ltb};
 ghost use Rattle.columns.specs.Column.{row as entry, at_front};
 ghost use Rattle.columns.specs.First.{indices_from};

@@ -1,10 +1,12 @@
 // What every crate above shares: a byte of a slice, whether two slices are the same, a copy of one, a column of one number, the larger of two levels, and
 // the answer of a search.
+#![tactic(auto)]
+
 ghost use Rattle.std.specs.Prelude.{◌≡◌, max, length, get_or};
 ghost use Rattle.columns.specs.Column.{tabulate, same};
 
 // The answer of a search: an index, or nothing.
-#[derive(Drop)]
+#[derive(Clone, Copy)]
 pub enum Found {
     At(usize),
     Nothing,

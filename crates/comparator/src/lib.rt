@@ -1,4 +1,6 @@
 // A comparator's step.
+#![tactic(auto)]
+
 ghost use Rattle.std.specs.Prelude.{◌≡◌};
 ghost use Rattle.columns.specs.First.{on_found};
 ghost use Rattle.connectivity.specs.Ports.{sides_of};

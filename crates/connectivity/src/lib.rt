@@ -1,4 +1,6 @@
 // The sides of a device: where a repeater or comparator reads and writes, and the two positions across its facing.
+#![tactic(auto)]
+
 ghost use Rattle.std.specs.Prelude.{◌≡◌};
 ghost use Rattle.columns.specs.First.{on_found};
 ghost use Rattle.connectivity.specs.Ports.{ahead, output_of, input_of, across, sides_of, of_kind, repeater_input_pos, repeater_output_pos, comparator_input_pos, comparator_output_pos, device_side_positions};

@@ -1,4 +1,6 @@
 // What a tick makes of one row's sixteen bytes of state, by its kind.
+#![tactic(auto)]
+
 ghost use Rattle.std.specs.Prelude.{◌≡◌, length};
 ghost use Rattle.levels.specs.Numbers.{numbers};
 ghost use Rattle.ports.specs.Ports.{Prepared};

@@ -1,4 +1,6 @@
 // The refusals of a call that settles.
+#![tactic(auto)]
+
 ghost use Rattle.std.specs.Prelude.{◌≡◌};
 ghost use Rattle.electrical.specs.Answer.{good_columns, check_call};
 

@@ -1,3 +1,5 @@
 // Device columns, and the levels that rows emit with them.
+#![tactic(auto)]
+
 pub mod device;
 pub mod output;

@@ -1,5 +1,7 @@
 // The feeder list of a table: for each row twelve entries, the numbers of the rows of dust that transmits into it, rising, then 65,535. The twelve
 // positions around a dust are looked at in the table's order, so that the numbers found are in rising order.
+#![tactic(auto)]
+
 mod around;
 
 ghost use Rattle.std.specs.Prelude.{◌≡◌, ◌*◌, ◌<◌, length};

@@ -1,4 +1,6 @@
 // The figures of a month: how many tables settle, in how many rounds, and to which levels of dust.
+#![tactic(auto)]
+
 mod dust;
 
 ghost use Rattle.std.specs.Prelude.{◌≡◌, ℕ, ◌+◌, ◌<◌, ◌≤◌, ◌^◌};

@@ -1,4 +1,6 @@
 // The fresh state of a row.
+#![tactic(auto)]
+
 ghost use Rattle.std.specs.Prelude.{◌≡◌, cond, ◌<◌, length, replicate};
 ghost use Rattle.columns.specs.Signal.{max_signal};
 ghost use Rattle.fresh.specs.Fresh.{fresh_device, fresh_queue, fresh_light, fresh_had_power, fresh_row};

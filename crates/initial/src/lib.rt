@@ -1,4 +1,6 @@
 // What a table settles to with its fresh devices, in columns of its own.
+#![tactic(auto)]
+
 ghost use Rattle.std.specs.Prelude.{◌≤◌};
 ghost use Rattle.world.specs.Rows.{rows};
 ghost use Rattle.initial.specs.SettlesFresh.{SettlesFresh};

@@ -1,4 +1,6 @@
 // Settling by the keys of the dust: 16 times the level less the hops by which it comes.
+#![tactic(auto)]
+
 mod key;
 mod pass;
 mod rounds;

@@ -1,4 +1,6 @@
 // A lamp's step.
+#![tactic(auto)]
+
 ghost use Rattle.std.specs.Prelude.{◌≡◌, length};
 ghost use Rattle.lamp.specs.Step.{next_lit, next_left, lamp_row};
 

@@ -1,4 +1,6 @@
 // A good profile, and a good row: each test of a row is one expression, with no branch.
+#![tactic(auto)]
+
 ghost use Rattle.std.specs.Prelude.{◌≡◌, ◌+◌, ◌*◌, ◌%◌, length, leb, ℤ};
 ghost use Rattle.layout.specs.Good.{most_of, low_bytes, good_profile, in_range, good_place, good_kind, good_value, good_support, good_arms, good_tail, good_row};
 

@@ -1,4 +1,6 @@
 // The settled power, read at a row: 0 past the end of a column. And what is on or off, as a number.
+#![tactic(auto)]
+
 pub mod signal;
 
 ghost use Rattle.std.specs.Prelude.{◌≡◌};

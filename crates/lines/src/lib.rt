@@ -1,4 +1,6 @@
 // The lines that the program `settle` writes, put into a buffer at a place. Each function answers the place after them.
+#![tactic(auto)]
+
 ghost use Rattle.std.specs.Prelude.{◌+◌, ◌*◌, ◌≤◌, length};
 ghost use Rattle.columns.specs.Column.{concat_rows};
 ghost use Rattle.columns.specs.Signal.{max_signal, AtMost15};

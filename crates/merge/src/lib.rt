@@ -1,4 +1,6 @@
 // Two tables in one.
+#![tactic(auto)]
+
 ghost use Rattle.std.specs.Prelude.{◌≡◌, length};
 ghost use Rattle.refusals.specs.declared.Checked.{Checked};
 ghost use Rattle.refusals.specs.Accepted.{Table};

@@ -1,4 +1,6 @@
 // Reads a profile and then tables from standard input, and writes how many of them settle, in how many rounds, and to which levels of dust.
+#![tactic(auto)]
+
 ghost use Rattle.std.specs.Prelude.{◌≤◌, length};
 ghost use Rattle.totals.specs.Month.{IsMonth};
 ghost use Rattle.reading.specs.Input.{AtMost};

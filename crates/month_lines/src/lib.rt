@@ -1,4 +1,6 @@
 // The lines that the program `month` writes, put into a buffer at a place. Each function answers the place after them.
+#![tactic(auto)]
+
 ghost use Rattle.std.specs.Prelude.{◌+◌, ◌*◌, ◌≤◌, length};
 ghost use Rattle.text.specs.Put.{Puts};
 ghost use Rattle.columns.specs.Ascii.{ascii};

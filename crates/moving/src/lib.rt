@@ -1,4 +1,6 @@
 // A table moved by an offset.
+#![tactic(auto)]
+
 ghost use Rattle.std.specs.Prelude.{◌≡◌, true, ◌*◌, length, ℤ};
 ghost use Rattle.columns.specs.First.{all_below};
 ghost use Rattle.world.specs.Rows.{rows, pos_of};

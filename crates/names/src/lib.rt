@@ -1,4 +1,6 @@
 // The shape of a block by its name. A name is never refused.
+#![tactic(auto)]
+
 ghost use Rattle.std.specs.Prelude.{◌≡◌};
 ghost use Rattle.names.specs.Names.{ends_with, slab_shape, stairs_shape, is_glass, shape_of_name};
 

@@ -1,4 +1,6 @@
 // Positions and facings, by value: the `Pos` and `Facing` of the original.
+#![tactic(auto)]
+
 ghost use Rattle.std.specs.Prelude.{◌≡◌, ℤ};
 ghost use Rattle.places.specs.Signed.{sat_add};
 ghost use Rattle.places.specs.Places.{cell, same_pos, before, opposite, horizontal_offset, beside, above, below};
@@ -19,7 +21,7 @@ fn sat_add(a: i32, d: i32) -> i32
 }
 
 // A block's position.
-#[derive(Drop)]
+#[derive(Clone, Copy)]
 pub struct Pos {
     pub x: i32,
     pub y: i32,
@@ -27,7 +29,7 @@ pub struct Pos {
 }
 
 // A position, or none: `Option<Pos>`.
-#[derive(Drop)]
+#[derive(Clone, Copy)]
 pub enum Place {
     There(Pos),
     Nowhere,
@@ -90,7 +92,7 @@ impl Pos {
 }
 
 // A facing, by its number in byte 13 of a row; 0 where it is missing.
-#[derive(Drop)]
+#[derive(Clone, Copy)]
 pub struct Facing {
     pub code: u8,
 }

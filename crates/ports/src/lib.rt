@@ -1,4 +1,6 @@
 // The rows at a device's output and input, at its sides and at its support, by the rows that were found by each row.
+#![tactic(auto)]
+
 ghost use Rattle.std.specs.Prelude.{◌≡◌, ◌<◌};
 ghost use Rattle.world.specs.Rows.{pos_of, support_of};
 ghost use Rattle.world.specs.Find.{find_at};

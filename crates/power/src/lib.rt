@@ -1,4 +1,6 @@
 // Strong power, the weak power that comes of it, and the direct levels of dust, each spread from its sources; and whether any row receives power.
+#![tactic(auto)]
+
 ghost use Rattle.std.specs.Prelude.{◌≡◌, length};
 ghost use Rattle.network.specs.Network.{strong_of};
 ghost use Rattle.circuit.specs.Circuit.{Shaped, circuit};

@@ -1,4 +1,6 @@
 // The two columns of a table, under a profile, in which settling finds its network.
+#![tactic(auto)]
+
 ghost use Rattle.std.specs.Prelude.{◌≡◌, ◌*◌, length};
 ghost use Rattle.world.specs.Rows.{rows};
 ghost use Rattle.refusals.specs.Accepted.{Table};

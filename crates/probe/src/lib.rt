@@ -1,5 +1,7 @@
 // C calls over the ported functions that no call of the editor reaches by itself, and over settling round by round, for the differential bench. Not for
 // the editor.
+#![tactic(auto)]
+
 mod numbers;
 
 ghost use Rattle.std.specs.Prelude.{◌≡◌, ℤ};

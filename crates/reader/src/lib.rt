@@ -1,4 +1,6 @@
 // `World::get` and `World::kind_at` over the lent table. The work is done on plain slices, in `world::find`.
+#![tactic(auto)]
+
 ghost use Rattle.std.specs.Prelude.{◌≡◌};
 ghost use Rattle.world.specs.Find.{find, kind_at};
 

@@ -1,4 +1,6 @@
 // Reads from a file descriptor, and tells an end from a failure.
+#![tactic(auto)]
+
 ghost use Rattle.std.specs.Prelude.{length};
 ghost use Rattle.reading.specs.Input.{AtMost};
 

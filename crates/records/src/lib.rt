@@ -1,4 +1,6 @@
 // The parts of a record, and a copy of one. Each function is total: a byte past the end is 0, and a slice past the end is cut off there.
+#![tactic(auto)]
+
 ghost use Rattle.std.specs.Prelude.{◌≡◌, ℤ};
 ghost use Rattle.records.specs.Record.{entry, pos_at, parts_from, after, slice_of, number, has_parts, well_formed, columns_agree, copied};
 

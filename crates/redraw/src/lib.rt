@@ -1,4 +1,6 @@
 // The arms of dust drawn anew: `update_wire_shapes`.
+#![tactic(auto)]
+
 ghost use Rattle.std.specs.Prelude.{◌≡◌, ◌+◌, ◌*◌, ◌≤◌, eqb, length};
 ghost use borrow.Rule.Slice.PartMut.{put_mid};
 ghost use Rattle.world.specs.Rows.{rows};

@@ -1,5 +1,7 @@
 // The map editor's calls. Each answers 65,536 times the number of the refusal that falls on it plus the row at fault, and then writes no byte;
 // else the rounds of its settling, 1 to 17, or what its own comment says. A profile has 13 bytes or, for tables with bulbs, 14.
+#![tactic(auto)]
+
 ghost use Rattle.std.specs.Prelude.{ℤ};
 ghost use Rattle.places.specs.Places.{cell};
 ghost use Rattle.supports.specs.Supports.{Listed};

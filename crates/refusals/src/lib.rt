@@ -1,4 +1,6 @@
 // The refusals: which of them falls on the inputs of a call, and the number that the call answers then.
+#![tactic(auto)]
+
 mod row;
 pub mod scan;
 

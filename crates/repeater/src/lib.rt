@@ -1,4 +1,6 @@
 // A repeater's step.
+#![tactic(auto)]
+
 ghost use Rattle.std.specs.Prelude.{◌≡◌, false, ◌≤◌, ◌<◌, length};
 ghost use Rattle.columns.specs.First.{on_found};
 ghost use Rattle.world.specs.Rows.{rows};

@@ -1,4 +1,6 @@
 // A row of a table replaced by another at the same position, and the feeder list beside the table updated.
+#![tactic(auto)]
+
 ghost use Rattle.std.specs.Prelude.{◌≡◌, ◌*◌, ◌<◌, length, ℤ, pos, ◌+ℤ◌};
 ghost use Rattle.std.specs.Int.Signed.{le_z};
 ghost use Rattle.columns.specs.Column.{concat_rows};

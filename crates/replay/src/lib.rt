@@ -1,4 +1,6 @@
 // The replay of a file's records.
+#![tactic(auto)]
+
 mod operations;
 
 ghost use Rattle.std.specs.Prelude.{◌≡◌, ◌+◌, ◌<◌, ◌^◌};

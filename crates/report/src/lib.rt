@@ -1,4 +1,6 @@
 // The text that the program `settle` writes, as a function of the whole of its input.
+#![tactic(auto)]
+
 ghost use Rattle.std.specs.Prelude.{◌≡◌, ◌≤◌, length};
 ghost use Rattle.refusals.specs.declared.Checked.TheVariants.{Accepted};
 ghost use Rattle.refusals.specs.Check.{check_input};

@@ -1,4 +1,6 @@
 // One round, from the last signals alone, over a network in columns.
+#![tactic(auto)]
+
 ghost use Rattle.std.specs.Prelude.{◌≡◌, cond, min, length};
 ghost use Rattle.columns.specs.Column.{row};
 ghost use Rattle.columns.specs.Signal.{max_signal};

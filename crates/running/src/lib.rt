@@ -1,4 +1,6 @@
 // What the calls do once their checks have passed: the rows beside each row and the classes are prepared once a call.
+#![tactic(auto)]
+
 mod prepared;
 
 ghost use Rattle.std.specs.Prelude.{◌≡◌, ◌*◌, length};

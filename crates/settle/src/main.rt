@@ -1,4 +1,6 @@
 // Reads a profile and a table from standard input, and writes what the table settles to, or why it is refused.
+#![tactic(auto)]
+
 use libc::{STDERR_FILENO, STDIN_FILENO, STDOUT_FILENO};
 use reading::Input;
 

@@ -1,5 +1,7 @@
 // The tick simulator: `RedstoneTickSimulator`, over a state of sixteen bytes a row. The calls check all that they are given before they
 // write anything.
+#![tactic(auto)]
+
 ghost use Rattle.places.specs.Places.{cell};
 ghost use Rattle.updates.specs.Calls.{Fresh, Ticks, Switches};
 

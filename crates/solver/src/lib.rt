@@ -1,4 +1,6 @@
 // Settling: `solve_instantaneous`, by one pass over the keys of the dust, level by level, or round by round. What either asks of the table is prepared first.
+#![tactic(auto)]
+
 mod keyed;
 mod ways;
 

@@ -1,4 +1,6 @@
 // What spreads along the edges.
+#![tactic(auto)]
+
 ghost use Rattle.std.specs.Prelude.{◌≡◌, length};
 ghost use Rattle.circuit.specs.Circuit.{Shaped};
 ghost use Rattle.spread.specs.Spread.{raised, spread_from, spread};

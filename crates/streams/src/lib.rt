@@ -1,4 +1,6 @@
 // A stream of tables: what stands at the front of the bytes that are left of it.
+#![tactic(auto)]
+
 ghost use Rattle.std.specs.Prelude.{◌≡◌, ◌≤◌};
 ghost use Rattle.words.specs.Words.{word as Words·word};
 ghost use Rattle.streams.specs.Stream.{open_front, full_ending, front_of, bytes_to_read};

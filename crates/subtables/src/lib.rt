@@ -1,4 +1,6 @@
 // Rows of a table, copied.
+#![tactic(auto)]
+
 ghost use Rattle.std.specs.Prelude.{◌≡◌, ◌+◌, ◌*◌, ◌≤◌, length};
 ghost use borrow.Rule.Slice.PartMut.{put_mid};
 ghost use Rattle.columns.specs.Column.{part};

@@ -1,4 +1,6 @@
 // Whether the support list is as the original's.
+#![tactic(auto)]
+
 ghost use Rattle.std.specs.Prelude.{◌≡◌, ◌<◌, length};
 ghost use Rattle.columns.specs.First.{all_below};
 ghost use Rattle.support_answers.specs.Answers.{listed, entry_agrees, is_listed, supports_agree_in, supports_agree, supports_right};

@@ -1,4 +1,6 @@
 // The rows whose support is missing or does not support components: `support_issues`.
+#![tactic(auto)]
+
 ghost use Rattle.std.specs.Prelude.{◌≡◌, ◌≤◌, length};
 ghost use Rattle.columns.specs.Column.{at_front};
 ghost use Rattle.world.specs.Rows.{rows};

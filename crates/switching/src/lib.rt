@@ -1,4 +1,6 @@
 // A switch: what a player turns on and off.
+#![tactic(auto)]
+
 ghost use Rattle.std.specs.Prelude.{◌≡◌, cond, eqb};
 ghost use Rattle.switching.specs.Switch.{switched};
 

@@ -1,5 +1,7 @@
 // Text that is put into a buffer at a place. Each function answers the place after its text. It requires the room that the longest such
 // text takes, and says that its text is no longer.
+#![tactic(auto)]
+
 ghost use Rattle.std.specs.Prelude.{◌≡◌, [], ◌∷◌, ◌++◌, ◌+◌, ◌<◌, ◌≤◌, length, ℤ, nat_abs};
 ghost use Rattle.text.specs.Text.{decimal_of, sign_text, signed_text, line_of};
 ghost use Rattle.text.specs.Put.{Puts};

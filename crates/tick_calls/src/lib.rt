@@ -1,4 +1,6 @@
 // Whether tick and switch answer and write as the original did, as `calls` says it of settle and fresh.
+#![tactic(auto)]
+
 ghost use Rattle.std.specs.Prelude.{◌≡◌, ℤ};
 ghost use Rattle.calls.specs.Calls.{well_formed_ticks, ticks_in, ticks_right, switch_in, switch_right};
 

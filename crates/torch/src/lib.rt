@@ -1,4 +1,6 @@
 // A torch's step.
+#![tactic(auto)]
+
 ghost use Rattle.std.specs.Prelude.{◌≡◌, length};
 ghost use Rattle.ports.specs.Ports.{Prepared};
 ghost use Rattle.torch.specs.Step.{torch_support_is_powered, next_toggles, next_candidate, torch_row};

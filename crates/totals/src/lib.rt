@@ -1,4 +1,6 @@
 // The month of a stream of tables, which is read piece by piece.
+#![tactic(auto)]
+
 ghost use Rattle.std.specs.Prelude.{◌≡◌, [], ◌∷◌, ◌≤◌};
 ghost use Rattle.columns.specs.Column.{Bytes};
 ghost use Rattle.world.specs.Rows.{rows};

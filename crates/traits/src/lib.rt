@@ -1,4 +1,6 @@
 // What a block does to redstone, by its kind's profile and its shape.
+#![tactic(auto)]
+
 pub mod shape;
 
 ghost use Rattle.std.specs.Prelude.{◌≡◌};
@@ -10,7 +12,7 @@ use world::find::find;
 use world::row;
 
 // `BlockRedstoneTraits`, under document 01's words for its fields.
-#[derive(Drop)]
+#[derive(Clone, Copy)]
 pub struct BlockRedstoneTraits {
     // supports_dust_on_top
     pub supports: bool,

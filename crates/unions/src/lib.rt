@@ -1,4 +1,6 @@
 // The walk along the rows of two tables, in order: each step takes a row of one of them, or of both where they stand at one position.
+#![tactic(auto)]
+
 ghost use Rattle.std.specs.Prelude.{◌≡◌, ◌+◌, ◌*◌, ◌≤◌, length};
 ghost use Rattle.columns.specs.Column.{part, same as sameBytes, at_front};
 ghost use Rattle.refusals.specs.Accepted.{Table};

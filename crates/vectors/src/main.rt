@@ -1,4 +1,6 @@
 // Replays the recorded answers of the original Rust, which stand in the file `vectors` as FORMAT.md says.
+#![tactic(auto)]
+
 ghost use Rattle.std.specs.Prelude.{◌≡◌, length};
 
 use libc::STDOUT_FILENO;

@@ -1,2 +1,4 @@
 // How power goes from dust to dust.
+#![tactic(auto)]
+
 pub mod transfer;

@@ -1,5 +1,7 @@
 // Parts of a slice, the number at its front, and a number written to it. Each function that reads is total: a byte past the end is 0, and a part past
 // the end is cut off there.
+#![tactic(auto)]
+
 ghost use Rattle.std.specs.Prelude.{◌≡◌, ◌+◌, ◌≤◌, ◌<◌, length, take, drop};
 ghost use Rattle.std.proofs.lemmas.List.Edits.{sets};
 ghost use Rattle.words.specs.Words.{half, word, long, four_bytes};

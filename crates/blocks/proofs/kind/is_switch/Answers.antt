@@ -1,0 +1,6 @@
+-- `blocks::kind::is_switch` meets its contract. Assumes nothing.
+use Rattle.columns.proofs.Truth.{or_none}
+use Rattle.blocks.proofs.kind.is_switch.Goals as goal
+
+pub returns : goal.returns
+returns c = rw or_none

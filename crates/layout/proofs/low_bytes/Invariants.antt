@@ -1,0 +1,19 @@
+-- `layout::low_bytes` meets its contract. The loop's invariant: the bytes passed are low. Assumes nothing.
+use borrow.Author.Rules.{rules}
+use mathlib.Core.Path.{◌≡◌, refl, sym}
+use mathlib.Core.Bool.{true, false}
+use Prim.Native.Nat.{◌-◌, ◌≤◌}
+use native.Mathlib.Omega.{arith}
+use lib.ListN.{get_or}
+use lib.Dec.{leb}
+use borrow.Author.Tests.{lt-leb, le-leb}
+use Rattle.columns.specs.First.{all_below}
+use Rattle.columns.proofs.First.{all_more, all_fails}
+use Rattle.layout.specs.Good.{most_of}
+use Rattle.layout.proofs.low_bytes.Given as goal
+
+abbrev pub invariant-loop-k : goal.invariant-loop-k
+invariant-loop-k l = (l.k ≤ 14) × (all_below (λ b. leb (get_or l.profile b 0) (most_of b)) l.k ≡ true)
+
+abbrev pub decreases-loop-k : goal.decreases-loop-k
+decreases-loop-k l = 14 - l.k

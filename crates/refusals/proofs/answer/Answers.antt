@@ -1,0 +1,6 @@
+-- `refusals::answer` meets its contract, by the cases of what was checked. Assumes nothing.
+use borrow.Author.Rules.{rules}
+use Rattle.refusals.proofs.answer.Goals as goal
+
+pub returns-in-Refused : goal.returns-in-Refused
+returns-in-Refused c = rw c.checked-1.given.1

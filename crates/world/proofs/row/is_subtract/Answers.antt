@@ -1,0 +1,6 @@
+-- `world::row::is_subtract` meets its contract. Assumes nothing.
+use borrow.Author.Rules.{rules}
+use Rattle.world.proofs.row.is_subtract.Goals as goal
+
+pub returns : goal.returns
+returns c = rw c.byte_of.ensures

@@ -1,0 +1,8 @@
+-- `world::row::pos_of` meets its contract. Assumes nothing.
+use Rattle.world.specs.Rows.{pos_of}
+use borrow.Author.Rules.{rules}
+use Rattle.world.proofs.row.pos_of.Goals as goal
+
+pub returns : goal.returns
+unfolding pos_of
+returns c = rw (c.pos_with.ensures, c.word_of-3.ensures, c.word_of-2.ensures, c.word_of.ensures)
