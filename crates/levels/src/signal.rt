@@ -3,7 +3,7 @@ ghost use Rattle.std.specs.Prelude.{◌≡◌, min};
 ghost use Rattle.columns.specs.Signal.{max_signal};
 
 // The level of a signal.
-#[derive(Drop)]
+#[derive(Clone, Copy)]
 pub struct Signal {
     pub level: u8,
 }
@@ -23,7 +23,7 @@ impl Signal {
 }
 
 // The number of rounds by which a table settles.
-#[derive(Drop)]
+#[derive(Clone, Copy)]
 pub struct Rounds {
     pub count: u32,
 }

@@ -173,9 +173,9 @@ around_along q (f ∷ fs) = sideways q f minus_one ∷ sideways q f zero_z ∷ s
 abbrev pub around : Pos → List Pos
 around q = around_along q horizontals
 
-pub is_around : (q : Pos) (fs : List ℕ) (f : ℕ) → Memᴰ f fs → {dy : ℤ} → Step dy → Memᴰ (sideways q f dy) (around_along q fs)
+pub is_around : (q : Pos) (f : ℕ) (fs : List ℕ) → Memᴰ f fs → {dy : ℤ} → Step dy → Memᴰ (sideways q f dy) (around_along q fs)
 unfolding around_along
-is_around q fs f (Memᴰ.head e) down = Memᴰ.head (ap (λ g. sideways q g minus_one) e)
-is_around q fs f (Memᴰ.head e) level = Memᴰ.tail (Memᴰ.head (ap (λ g. sideways q g zero_z) e))
-is_around q fs f (Memᴰ.head e) up = Memᴰ.tail (Memᴰ.tail (Memᴰ.head (ap (λ g. sideways q g one) e)))
-is_around q fs f (Memᴰ.tail {x = g} {xs = gs} m) s = Memᴰ.tail (Memᴰ.tail (Memᴰ.tail (is_around q gs f m s)))
+is_around q f fs (Memᴰ.head e) down = Memᴰ.head (ap (λ g. sideways q g minus_one) e)
+is_around q f fs (Memᴰ.head e) level = Memᴰ.tail (Memᴰ.head (ap (λ g. sideways q g zero_z) e))
+is_around q f fs (Memᴰ.head e) up = Memᴰ.tail (Memᴰ.tail (Memᴰ.head (ap (λ g. sideways q g one) e)))
+is_around q f fs (Memᴰ.tail {x = g} {xs = gs} m) s = Memᴰ.tail (Memᴰ.tail (Memᴰ.tail (is_around q f gs m s)))

@@ -41,4 +41,4 @@ overflow_cast-result c = between _ c.if-wide-gt2147483647.false c.if-wide-ltminu
 pub returns : goal.returns
 unfolding sat_add clamp32
 returns c = let s = c in
-    rw (back32 _ (cast-result c), ← wide _ _ s.ranges.a s.ranges.d, c.if-wide-gt2147483647.false, c.if-wide-ltminus2147483648.false)
+    rw (back32 _ (overflow_cast-result c), ← wide _ _ s.ranges.a s.ranges.d, c.if-wide-gt2147483647.false, c.if-wide-ltminus2147483648.false)

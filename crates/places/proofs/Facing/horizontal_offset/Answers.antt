@@ -19,21 +19,20 @@ upright f a b c d =
 
 pub returns-in-1 : goal.returns-in-1
 unfolding horizontal_offset step
-returns-in-1 c = rw c.in-1.keys1 (ap There c.new.ensures)
+returns-in-1 c = rw c.in-1.is (ap There c.new.ensures)
 
 pub returns-in-2 : goal.returns-in-2
 unfolding horizontal_offset step
-returns-in-2 c = rw c.in-1.keys2 (ap There c.new-in-2.ensures)
+returns-in-2 c = rw c.in-2.is (ap There c.new-in-2.ensures)
 
 pub returns-in-3 : goal.returns-in-3
 unfolding horizontal_offset step
-returns-in-3 c = rw c.in-1.keys3 (ap There c.new-in-3.ensures)
+returns-in-3 c = rw c.in-3.is (ap There c.new-in-3.ensures)
 
 pub returns-in-4 : goal.returns-in-4
 unfolding horizontal_offset step
-returns-in-4 c = rw c.in-1.keys4 (ap There c.new-in-4.ensures)
+returns-in-4 c = rw c.in-4.is (ap There c.new-in-4.ensures)
 
 pub returns-in_default : goal.returns-in_default
 unfolding horizontal_offset
-returns-in_default c = let none = c.in-1.rest in
-    rw (upright c.args.self.code none.0.0.0.1 none.0.0.1 none.0.1 none.1)
+returns-in_default c = rw (upright c.args.self.code (λ e. omega arith) (λ e. omega arith) (λ e. omega arith) (λ e. omega arith))

@@ -44,11 +44,11 @@ unfolding beside
 beside_is q f h = ap (λ d. offset q d.x zero_z d.z) (sym (ap step_or h) ∙ step_is f)
 
 pub returns-in_default : goal.returns-in_default
-returns-in_default c = c.offset.ensures ∙ beside_is _ _ (sym c.horizontal_offset.ensures ∙ c.enum_told-1.given.1)
+returns-in_default c = c.offset.ensures ∙ beside_is _ _ (sym c.horizontal_offset.ensures ∙ c.in_default.is)
 
 pub returns : goal.returns
-returns c = let there = c in
-    let fx : SFits w32 there.step-1.given.0.0.x = search rules in
-    let fz : SFits w32 there.step-1.given.0.0.z = search rules in
+returns c =
+    let fx : SFits w32 c.in-There.step.x = search rules in
+    let fz : SFits w32 c.in-There.step.z = search rules in
     rw (c.offset-2.ensures, back32 _ fx, back32 _ fz)
-    (beside_is _ _ (sym there.horizontal_offset.ensures ∙ there.step-1.given.1))
+    (beside_is _ _ (sym c.horizontal_offset.ensures ∙ c.in-There.is))

@@ -13,9 +13,9 @@ returns c = let s = c in
     let one = c.sat_add in
     let two = c.sat_add-2 in
     let three = c.sat_add-3 in
-    let f1 : SFits w32 one.result = sfits_of one.type-inv in
-    let f2 : SFits w32 two.result = sfits_of two.type-inv in
-    let f3 : SFits w32 three.result = sfits_of three.type-inv in
+    let f1 : SFits w32 one.result = sfits_of one.type_inv in
+    let f2 : SFits w32 two.result = sfits_of two.type_inv in
+    let f3 : SFits w32 three.result = sfits_of three.type_inv in
     let gx = s.ranges.dx in
     let gy = s.ranges.dy in
     let gz = s.ranges.dz in
