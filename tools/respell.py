@@ -35,6 +35,14 @@ def wanted(name):
     return bool(re.match(r"[a-z]", name)) and ("-" in name or re.search(r"[a-z0-9][A-Zℤℕ]", name) is not None)
 
 
+def of_library(text):
+    """The names that a text imports from crates that are not of this repository."""
+    for path, names in re.findall(r"(?m)^\s*(?:pub )?use ([^\s{]+?)\.\{(.*)\}", text):
+        own = re.match(r"Rattle\.(\w+)\.(specs|proofs)", path)
+        if not (own and os.path.isdir("crates/" + own[1])):
+            yield from (x.strip().split(" as ")[0] for x in names.split(","))
+
+
 def collect():
     top, field, plain, library = set(), set(), set(), set()
     for p in files(".antt"):
@@ -43,11 +51,8 @@ def collect():
         for line in open(p, encoding="utf-8"):
             if line.lstrip().startswith("--"):
                 continue
-            m = re.match(r"\s*(?:pub )?use ([\w.ℕ·ᴰ]+)(?:\.\{(.*)\})?", line)
-            if m:
-                own = re.match(r"Rattle\.(\w+)\.(specs|proofs)", m[1])
-                if m[2] and not (own and os.path.isdir("crates/" + own[1])):
-                    library.update(x.strip().split(" as ")[0] for x in m[2].split(","))
+            if re.match(r"\s*(?:pub )?use ", line):
+                library.update(of_library(line))
                 continue
             if re.match(r"\s*(?:abbrev |pub )*record ", line):
                 inside = len(line) - len(line.lstrip())
@@ -71,7 +76,7 @@ def collect():
 
 def choose():
     top, field, plain, library = collect()
-    old = (top | field) - library - set(DASHED.values())
+    old = (top | field) - set(DASHED.values())
     taken = plain | library | set(DASHED.values())
     out = {}
     # definitions in camel case first: a lemma gives way to them
@@ -88,8 +93,14 @@ def choose():
 
 
 def turn_antt(text, names, fields):
+    here = set(of_library(text))
+    every = names
+    names = {a: b for a, b in names.items() if a not in here}
     lines = []
     for line in text.split("\n"):
+        if here and re.match(r"\s*(?:pub )?use ", line) and not set(of_library(line)):
+            lines.append(TOKEN.sub(lambda m: every.get(m[0], m[0]), line))
+            continue
         code, sep, note = line.partition(" -- ") if not line.lstrip().startswith("--") else ("", line, "")
         if sep == line:
             lines.append(TOKEN.sub(lambda m: names.get(m[0], m[0]), line))

@@ -2,7 +2,7 @@
 -- Assumes nothing.
 use mathlib.Core.Path.{◌≡◌, refl, sym}
 use mathlib.Core.Logic.{⊎_elim, by_cases}
-use mathlib.Core.Bool.{Bool, true, false, true≢false, or_true}
+use mathlib.Core.Bool.{Bool, true, false, true≢false, or-true}
 use Prim.Native.Nat.{ℕ, zero, suc, ◌-◌, ◌≤◌, ◌<◌}
 use native.Mathlib.Nat.{le_refl, le_of_suc-le-suc, eq-or-lt_of_le, not-suc-le-zero}
 use native.Mathlib.Decide.{dec_lt}
@@ -36,7 +36,7 @@ pub holds_some : (f : ℕ → Bool) (n k : ℕ) → k < n → f k ≡ true → s
 unfolding some_below
 holds_some f zero k l h = absurd (not-suc-le-zero l)
 holds_some f (suc n) k l h =
-    ⊎_elim (λ e. rw (← e, h) (or_true (some_below f k))) (λ m. rw (holds_some f n k m h)) (eq-or-lt_of_le (le_of_suc-le-suc l))
+    ⊎_elim (λ e. rw (← e, h) (or-true (some_below f k))) (λ m. rw (holds_some f n k m h)) (eq-or-lt_of_le (le_of_suc-le-suc l))
 
 -- ---- an edge is a way that leads to a row
 

@@ -2,7 +2,7 @@
 -- Assumes nothing.
 use mathlib.Core.Path.{◌≡◌, refl, ap, ap₂, sym, ◌∙◌}
 use mathlib.Core.Logic.{by_cases}
-use mathlib.Core.Bool.{Bool, true, false, cond, not, ◌&&◌, and_true, and-false, or_true}
+use mathlib.Core.Bool.{Bool, true, false, cond, not, ◌&&◌, and-true, and-false, or-true}
 use Prim.Native.Nat.{ℕ, ◌+◌, ◌≤◌, ◌<◌}
 use native.Mathlib.Nat.{not-suc-le-zero}
 use native.Mathlib.Numerals.{add-one}
@@ -39,7 +39,7 @@ module _ {holders old : Column} {n i : ℕ} {now : Column} {any : Bool} (m : Mar
 
       went : (b : Bool) → goes holders (unmarked old) old j ≡ b → row now j ≡ cond b n (row old j) → left_at now n j ≡ unmarked old j
       went false g e = same e
-      went true g e = rw (e, eq-eqb n n refl, (both_true (unmarked old j) _ g).0) (or_true (eqb n 0))
+      went true g e = rw (e, eq-eqb n n refl, (both_true (unmarked old j) _ g).0) (or-true (eqb n 0))
 
   -- so that row i goes just where it went from the old marks
   pub goes_then : ((k : ℕ) → row old k < n) → goes holders (left_at now n) now i ≡ goes holders (unmarked old) old i
@@ -53,7 +53,7 @@ module _ {holders old : Column} {n i : ℕ} {now : Column} {any : Bool} (m : Mar
         long = m.long;
         passed = below_more (λ k. row now k ≡ cond (goes holders (unmarked old) old k) n (row old k)) i m.passed (rw e (m.rest i (omega arith)));
         rest = λ k l. m.rest k (omega arith);
-        found = m.found ∙ rw (add-one i, e) (ap not (sym (and_true (all_below (λ k. not (goes holders (unmarked old) old k)) i))));
+        found = m.found ∙ rw (add-one i, e) (ap not (sym (and-true (all_below (λ k. not (goes holders (unmarked old) old k)) i))));
       }
 
   pub marking_more : i < length old → goes holders (unmarked old) old i ≡ true → Marking holders old n (i + 1) (set now i n) true

@@ -9,7 +9,7 @@ use native.Mathlib.Decide.{dec_lt}
 use native.Mathlib.Omega.{arith}
 use lib.ListN.{length, get_or-eq_default}
 use lib.Dec.{eqb, ltb}
-use borrow.Author.Tests.{not_true, lt-ltb, le-ltb}
+use borrow.Author.Tests.{not-true, lt-ltb, le-ltb}
 use Rattle.columns.specs.Column.{Bytes, Column, row, tabulate}
 use Rattle.columns.specs.declared.Found.{Found}
 use Rattle.columns.specs.declared.Found.TheVariants.{At, Nothing}
@@ -113,7 +113,7 @@ module _ (p t : Bytes) (a : Table t) where
 
   any_none : (k : ℕ) → any_goes (holders_of p t) (marks p t k) ≡ false → (i : ℕ) → i < rows t → goes_after k i ≡ false
   unfolding any_goes
-  any_none k e i l = not_true _ (all_at (λ i. not (goes_after k i)) (length (marks p t k)) (not_false _ e) i (rw (marks_long k) l))
+  any_none k e i l = not-true _ (all_at (λ i. not (goes_after k i)) (length (marks p t k)) (not_false _ e) i (rw (marks_long k) l))
 
   none_any : (k : ℕ) → issues_among p t (left p t k) ≡ [] → any_goes (holders_of p t) (marks p t k) ≡ false
   unfolding any_goes

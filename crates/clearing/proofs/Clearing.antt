@@ -2,7 +2,7 @@
 -- Assumes nothing.
 use mathlib.Core.Path.{◌≡◌, refl, ap, sym, ◌∙◌}
 use mathlib.Core.Logic.{⊎_elim}
-use mathlib.Core.Bool.{Bool, true, false, ◌||◌, true≢false, or_true}
+use mathlib.Core.Bool.{Bool, true, false, ◌||◌, true≢false, or-true}
 use mathlib.Core.List.{List, [], ◌∷◌}
 use Prim.Native.Nat.{ℕ, zero, suc, ◌≤◌, ◌<◌}
 use native.Mathlib.Nat.{zero-add}
@@ -183,7 +183,7 @@ module _ (p t : Bytes) (h : IsAccepted p t) where
       first = rw (eq-eqb i i refl) refl
 
       second : pair j ≡ true
-      second = rw (eq-eqb j j refl) (or_true (eqb j i))
+      second = rw (eq-eqb j j refl) (or-true (eqb j i))
 
       held : EverySupported p t pair
       held k _ e _ =

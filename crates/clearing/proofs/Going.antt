@@ -10,7 +10,7 @@ use native.Mathlib.Decide.{dec_lt}
 use native.Mathlib.Omega.{arith}
 use lib.ListN.{length}
 use lib.Dec.{eqb}
-use borrow.Author.Tests.{ne_eqb, not_true, not_false}
+use borrow.Author.Tests.{ne_eqb, not-true, not-false}
 use Rattle.columns.specs.declared.Found.{Found}
 use Rattle.columns.specs.declared.Found.TheVariants.{At, Nothing}
 use Rattle.columns.specs.Column.{Bytes, row}
@@ -157,13 +157,13 @@ module _ (p t : Bytes) (a : Table t) (i : ℕ) (l : i < rows t) where
     where
       none : (n : ℕ) → first_from has_gone n 1 ≡ Nothing → still_left p t n i ≡ true
       none zero e = refl
-      none (suc n) e = not_false (still_left p t (suc n) i) (sym (gone_test (suc n)) ∙ first-none has_gone (suc n) 1 e (suc n) (omega arith) (omega arith))
+      none (suc n) e = not-false (still_left p t (suc n) i) (sym (gone_test (suc n)) ∙ first-none has_gone (suc n) 1 e (suc n) (omega arith) (omega arith))
 
       go : (x : Found) → first_from has_gone n 1 ≡ x → eqb (on_found (λ k. k) 0 x) 0 ≡ still_left p t n i
       go Nothing e = sym (none n e)
       go (At j) e =
           let first = first_at has_gone n 1 j e in
-          let gone : still_left p t j i ≡ false = not_true (still_left p t j i) (sym (gone_test j) ∙ first.holds) in
+          let gone : still_left p t j i ≡ false = not-true (still_left p t j i) (sym (gone_test j) ∙ first.holds) in
           ne_eqb j 0 (λ z. omega (arith, first.from)) ∙ sym (gone_later j n (omega (arith, first.inside)) gone)
 
   -- by one pass more: it goes in that, if it is left before and not after
@@ -211,14 +211,14 @@ module _ (p t : Bytes) (a : Table t) (i : ℕ) (l : i < rows t) where
 
   pub pass_goes : (n k : ℕ) → pass_within p t n i ≡ suc k → Goes p t k i
   unfolding still_left
-  pass_goes n k h = goes_in p t a k i l (before k first) (not_true (still_left p t (suc k) i) (sym (gone_test (suc k)) ∙ first.holds))
+  pass_goes n k h = goes_in p t a k i l (before k first) (not-true (still_left p t (suc k) i) (sym (gone_test (suc k)) ∙ first.holds))
     where
       first : IsFirst has_gone 1 n (suc k)
       first = pass_first n k h
 
       before : (k : ℕ) → IsFirst has_gone 1 n (suc k) → still_left p t k i ≡ true
       before zero first = refl
-      before (suc k) first = not_false (still_left p t (suc k) i) (sym (gone_test (suc k)) ∙ first.earlier (suc k) (omega arith) (omega arith))
+      before (suc k) first = not-false (still_left p t (suc k) i) (sym (gone_test (suc k)) ∙ first.earlier (suc k) (omega arith) (omega arith))
 
   pub goes_pass : (n k : ℕ) → k < n → Goes p t k i → pass_within p t n i ≡ suc k
   goes_pass n k m g =

@@ -7,7 +7,7 @@ use Prim.Native.Nat.{ℕ, zero, suc, ◌<◌}
 use native.Mathlib.Nat.{zero-add}
 use native.Mathlib.Omega.{arith}
 use lib.ListN.{length}
-use borrow.Author.Tests.{not_true, not_false}
+use borrow.Author.Tests.{not-true, not-false}
 use Rattle.columns.specs.declared.Found.{Found}
 use Rattle.columns.specs.declared.Found.TheVariants.{At, Nothing}
 use Rattle.columns.specs.Column.{Bytes, row}
@@ -110,9 +110,9 @@ module _ (p t : Bytes) (k i : ℕ) where
   -- by one pass more: a row that is left was left before, and did not lack a support,
   pub left_before : still_left p t (suc k) i ≡ true → (still_left p t k i ≡ true) × (lacks_among p t (still_left p t k) i ≡ false)
   unfolding still_left
-  left_before h = let (before, held) = and_true (still_left p t k i) (not (lacks_among p t (still_left p t k) i)) h in (before, not_true _ held)
+  left_before h = let (before, held) = and_true (still_left p t k i) (not (lacks_among p t (still_left p t k) i)) h in (before, not-true _ held)
 
   -- and one that goes lacked one
   pub goes_lacking : still_left p t k i ≡ true → still_left p t (suc k) i ≡ false → lacks_among p t (still_left p t k) i ≡ true
   unfolding still_left
-  goes_lacking before after = not_false _ (rw before at after)
+  goes_lacking before after = not-false _ (rw before at after)

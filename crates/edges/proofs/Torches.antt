@@ -1,6 +1,6 @@
 -- Document 02, Change 3: the network of a table with value 32 of the torch's byte, and without it. Assumes nothing.
 use mathlib.Core.Path.{◌≡◌, refl, ◌∙◌}
-use mathlib.Core.Bool.{Bool, true, false, ◌&&◌, ◌||◌, or_false}
+use mathlib.Core.Bool.{Bool, true, false, ◌&&◌, ◌||◌, or-false}
 use Prim.Native.Nat.{ℕ}
 use Rattle.columns.specs.Column.{Bytes}
 use Rattle.blocks.specs.Profile.{torch_charges_above}
@@ -37,7 +37,7 @@ unfolding network_of network_by emitted_to_strong
 network_without_value p t clear = λ x. with_strong (network_of p t) (λ j i. edge j i x)
   where
     edge : (j i : ℕ) → emitted_to_strong p t j i ≡ strong01 p t j i
-    edge j i = rw (clear, or_false) refl
+    edge j i = rw (clear, or-false) refl
 
 -- and with it there are the edges from torches besides.
 pub network_with_value : (p t : Bytes) → torch_charges_above p ≡ true

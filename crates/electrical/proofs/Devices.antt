@@ -9,7 +9,7 @@ use native.Mathlib.Decide.{dec_le, dec_lt}
 use native.Mathlib.Omega.{arith}
 use lib.ListN.{length, get_or-eq_default}
 use lib.Dec.{eqb}
-use borrow.Author.Tests.{eqb-true, eq-eqb, not_false}
+use borrow.Author.Tests.{eqb-true, eq-eqb, not-false}
 use Rattle.columns.specs.Column.{Bytes, Column, row, tabulate}
 use Rattle.columns.specs.Signal.{max_signal}
 use Rattle.columns.proofs.Columns.{length_tabulate, row_tabulate}
@@ -29,7 +29,7 @@ pub valid_devices : (t : Bytes) (d : Column) → check_devices t d ≡ Accepted 
 unfolding check_devices
 valid_devices t d h =
     let v = passed_values (eqb (length d) (rows t)) (is_bad_device t d) (row d) (rows t) h in
-    record { sized = eqb-true _ _ v.of_size; good = λ i l. not_false _ (v.good i l); low = v.low }
+    record { sized = eqb-true _ _ v.of_size; good = λ i l. not-false _ (v.good i l); low = v.low }
 
 pub devices_valid : (t : Bytes) (d : Column) → Devices t d → check_devices t d ≡ Accepted
 unfolding check_devices

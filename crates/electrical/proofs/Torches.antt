@@ -2,7 +2,7 @@
 -- value set or clear is in Demand.antt.
 -- Assumes nothing.
 use mathlib.Core.Path.{◌≡◌, ap}
-use mathlib.Core.Bool.{Bool, true, false, cond, ◌||◌, or_true}
+use mathlib.Core.Bool.{Bool, true, false, cond, ◌||◌, or-true}
 use Prim.Native.Nat.{ℕ, ◌≤◌, ◌<◌, max}
 use native.Mathlib.Nat.{le_antisymm}
 use Rattle.columns.specs.Column.{Bytes, Column, row}
@@ -72,7 +72,7 @@ module _ (t : Bytes) (d : Column) where
 module _ {p t : Bytes} {d : Column} {j i : ℕ} (value : torch_charges_above p ≡ true) (o : OverLitTorch p t d j i) where
   reached : emitted_to_strong p t j i ≡ true
   unfolding emitted_to_strong is_over_torch
-  reached = rw (o.receives, o.is_torch, value, o.is_above, or_true, or_true, or_true)
+  reached = rw (o.receives, o.is_torch, value, o.is_above, or-true, or-true, or-true)
 
   lit : row (emitted t d) j ≡ max_signal
   unfolding emitted_level

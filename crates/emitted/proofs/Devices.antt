@@ -8,7 +8,7 @@ use native.Mathlib.Decide.{ℕ_discrete}
 use native.Mathlib.Omega.{arith}
 use lib.ListN.{length}
 use lib.Dec.{eqb, leb}
-use borrow.Author.Tests.{eqb-true, ne_eqb, leb-true, ltb-true, not_false}
+use borrow.Author.Tests.{eqb-true, ne_eqb, leb-true, ltb-true, not-false}
 use Rattle.columns.specs.Column.{Bytes, Column, row}
 use Rattle.columns.specs.Signal.{max_signal}
 use Rattle.blocks.specs.Kind.{Comparator}
@@ -36,4 +36,4 @@ unfolding check_devices
 overdriven_device t d i h =
     let (_, good, first) = values_given_overdriven (eqb (length d) (rows t)) (is_bad_device t d) (row d) (rows t) i h in
     let above : max_signal < row d i = ltb-true _ _ first.holds in
-    (above_15 (kind_of t i) (row d i) (not_false _ (good i (omega (arith, first.inside)))) above, above)
+    (above_15 (kind_of t i) (row d i) (not-false _ (good i (omega (arith, first.inside)))) above, above)

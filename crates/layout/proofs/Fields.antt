@@ -9,7 +9,7 @@ use native.Mathlib.Omega.{arith}
 use lib.Dec.{eqb, leb}
 use lib.IntN.{ℤ, pos, negsuc}
 use lib.Signed.{le_z, mag}
-use borrow.Author.Tests.{leb-true, not_true, not_false}
+use borrow.Author.Tests.{leb-true, not-true, not-false}
 use Rattle.columns.specs.Column.{Bytes, part}
 use Rattle.columns.specs.First.{all_below}
 use Rattle.columns.proofs.First.{all_at}
@@ -206,7 +206,7 @@ module _ (changed : ℕ → Bool) (t u : Bytes) (i j : ℕ) (agree : (b : ℕ) �
   untouched : (f : Field) → is_touched changed f ≡ false → SameField t u i j f
   untouched f h k l =
       agree (first f + k) (omega (arith, inside f))
-      (not_true _ (all_at (λ k. not (changed (first f + k))) (width f) (not_false _ h) k l))
+      (not-true _ (all_at (λ k. not (changed (first f + k))) (width f) (not-false _ h) k l))
 
   -- its position is the same where no byte of that is changed
   pub place_again : is_touched changed Place ≡ false → pos_of u j ≡ pos_of t i

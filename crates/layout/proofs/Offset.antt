@@ -2,7 +2,7 @@
 -- Assumes nothing.
 use mathlib.Core.Path.{◌≡◌, refl}
 use mathlib.Core.Logic.{by_cases}
-use mathlib.Core.Bool.{Bool, false, ◌&&◌, ◌||◌, or_false}
+use mathlib.Core.Bool.{Bool, false, ◌&&◌, ◌||◌, or-false}
 use Prim.Native.Nat.{ℕ, zero, suc, ◌+◌, ◌*◌, ◌%◌, ◌<◌}
 use native.Mathlib.Decide.{ℕ_discrete, dec_lt}
 use native.Mathlib.Omega.{arith}
@@ -26,7 +26,7 @@ one d h =
 pub one_test : (given x y z : ℕ) → x < 256 → y < 256 → z < 256
     → (leb given 1 && (is_offset given x && is_offset given y && is_offset given z))
     ≡ ((eqb given 0 && (eqb x 0 && eqb y 0 && eqb z 0)) || (eqb given 1 && (is_unit x && is_unit y && is_unit z)))
-one_test zero x y z a b c = rw (none x a, none y b, none z c, or_false) refl
+one_test zero x y z a b c = rw (none x a, none y b, none z c, or-false) refl
 one_test (suc zero) x y z a b c = rw (one x a, one y b, one z c) refl
 one_test (suc (suc g)) x y z a b c =
     let more : (n : ℕ) → n < 2 → eqb (suc (suc g)) n ≡ false = λ n l. ne_eqb (suc (suc g)) n (λ e. omega arith) in

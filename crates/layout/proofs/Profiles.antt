@@ -1,7 +1,7 @@
 -- Document 02, Changes 3 and 4: number 1, beside number 1 of document 01. Assumes nothing.
 use mathlib.Core.Path.{◌≡◌, refl, ap, sym, ◌∙◌}
 use mathlib.Core.Logic.{by_cases}
-use mathlib.Core.Bool.{Bool, true, false, ◌&&◌, ◌||◌, and_true}
+use mathlib.Core.Bool.{Bool, true, false, ◌&&◌, ◌||◌, and-true}
 use Prim.Native.Nat.{ℕ, ◌/◌, ◌%◌, ◌≤◌, ◌<◌}
 use native.Mathlib.Decide.{ℕ_discrete, dec_lt}
 use native.Mathlib.Omega.{arith}
@@ -39,7 +39,7 @@ other_length p m n = rw (ne_eqb (length p) 13 m, ne_eqb (length p) 14 n)
 
 -- with 13 bytes the fourteenth test passes, since a byte past the end is 0
 low_13 : (p : Bytes) → length p ≡ 13 → low_bytes p ≡ all_below (λ k. leb (get_or p k 0) (most_of k)) 13
-low_13 p h = let none : get_or p CopperBulb 0 ≡ 0 = get_or-eq_default p 0 (omega arith) in rw (none, and_true) refl
+low_13 p h = let none : get_or p CopperBulb 0 ≡ 0 = get_or-eq_default p 0 (omega arith) in rw (none, and-true) refl
 
 -- 13 bytes with a fourteenth are good where the 13 are, and the bulb's is at most 31
 pub good_with_bulb : (p : Bytes) (b : ℕ) → length p ≡ 13 → good_profile (with_bulb p b) ≡ (good_profile p && leb b 31)

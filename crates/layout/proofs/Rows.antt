@@ -1,7 +1,7 @@
 -- Document 02, Change 4: a good row beside one of document 01. Assumes nothing.
 use mathlib.Core.Path.{◌≡◌, refl}
 use mathlib.Core.Logic.{by_cases}
-use mathlib.Core.Bool.{Bool, true, false, ◌&&◌, and_true, and-false}
+use mathlib.Core.Bool.{Bool, true, false, ◌&&◌, and-true, and-false}
 use Prim.Native.Nat.{ℕ}
 use native.Mathlib.Decide.{dec_lt}
 use native.Mathlib.Omega.{arith}
@@ -23,5 +23,5 @@ pub good_01 : (t : Bytes) (i : ℕ) → (good_row t i && ltb (kind_of t i) 13) �
 unfolding good_row
 good_01 t i =
     by_cases (dec_lt (kind_of t i) 13)
-    (λ l. rw (lt-ltb (kind_of t i) 13 l, le-leb (kind_of t i) 13 (omega arith), le-leb (kind_of t i) 12 (omega arith)) (and_true _))
+    (λ l. rw (lt-ltb (kind_of t i) 13 l, le-leb (kind_of t i) 13 (omega arith), le-leb (kind_of t i) 12 (omega arith)) (and-true _))
     (λ n. simp (le-ltb (kind_of t i) 13 (omega arith), lt-leb (kind_of t i) 12 (omega arith), and-false))

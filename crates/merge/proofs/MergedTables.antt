@@ -7,7 +7,7 @@ use mathlib.Core.List.{Memᴰ}
 use Prim.Native.Nat.{ℕ, ◌*◌, ◌≤◌, ◌<◌}
 use lib.ListN.{length}
 use lib.Dec.{leb}
-use borrow.Author.Tests.{leb-true, not_true}
+use borrow.Author.Tests.{leb-true, not-true}
 use Rattle.columns.specs.Column.{Bytes}
 use Rattle.places.specs.declared.Pos.{Pos}
 use Rattle.world.specs.Rows.{rows, pos_of}
@@ -77,7 +77,7 @@ module _ (a b : Bytes) (by : Pos) (bytes : ℕ) (passed : check_merge a b by byt
   tests =
       let (none, next) = passed_unless 12 (not (has_clash (rows_of a) (moved_rows b by))) _ (both_passed a b by bytes passed).1 in
       let (few, _) = passed_unless 3 (leb (length (union_rows (rows_of a) (moved_rows b by))) 1024) _ next in
-      (not_true _ none, leb-true _ 1024 few)
+      (not-true _ none, leb-true _ 1024 few)
 
   -- ---- its rows
 

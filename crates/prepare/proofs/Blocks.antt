@@ -1,7 +1,7 @@
 -- Laws: the edges that lead to blocks, of a table's columns and of the table.
 -- Assumes nothing.
 use mathlib.Core.Path.{◌≡◌, ap, sym, ◌∙◌}
-use mathlib.Core.Bool.{Bool, false, true, cond, ◌&&◌, ◌||◌, and_true, and-false, or_false, and_assoc, and_comm}
+use mathlib.Core.Bool.{Bool, false, true, cond, ◌&&◌, ◌||◌, and-true, and-false, or-false, and_assoc, and_comm}
 use Prim.Native.Nat.{ℕ, zero, suc, ◌+◌, ◌≤◌, ◌<◌}
 use native.Mathlib.Omega.{arith}
 use lib.Dec.{eqb}
@@ -52,10 +52,10 @@ ahead_some : (q r : Pos) (f : ℕ)
     || ((same_pos (beside q East) r && eqb f East) || ((same_pos (beside q South) r && eqb f South) || (same_pos (beside q West) r && eqb f West))))
 unfolding ahead
 ahead_some q r zero = simp and-false
-ahead_some q r (suc zero) = simp (and_true, and-false, or_false)
-ahead_some q r (suc (suc zero)) = simp (and_true, and-false, or_false)
-ahead_some q r (suc (suc (suc zero))) = simp (and_true, and-false, or_false)
-ahead_some q r (suc (suc (suc (suc zero)))) = simp (and_true, and-false)
+ahead_some q r (suc zero) = simp (and-true, and-false, or-false)
+ahead_some q r (suc (suc zero)) = simp (and-true, and-false, or-false)
+ahead_some q r (suc (suc (suc zero))) = simp (and-true, and-false, or-false)
+ahead_some q r (suc (suc (suc (suc zero)))) = simp (and-true, and-false)
 ahead_some q r (suc (suc (suc (suc (suc n))))) =
     let f : ℕ = suc (suc (suc (suc (suc n)))) in
     let other : (g : ℕ) → g ≤ 4 → eqb f g ≡ false = λ g l. ne_eqb f g (omega arith) in
@@ -67,7 +67,7 @@ module _ (p t : Bytes) (table : Table t) (j i : ℕ) (hj : j < rows t) (hi : i <
   unfolding edge_in sink_of strong_to_weak place_by adjacent
   strong-to-weak =
       edge_part p t table j i hj hi (λ k x. weak_in (class_at p t x)) (traits p t i).weak (λ k. true) 6 (omega arith)
-      (λ k l e. (class-at p t table i hi).weak ∙ sym (and_true _))
+      (λ k l e. (class-at p t table i hi).weak ∙ sym (and-true _))
       ∙ ap (λ b. (traits p t i).weak && b) (six_neighbours (stands_by t j i))
 
   leads : ℕ → Bool
@@ -77,7 +77,7 @@ module _ (p t : Bytes) (table : Table t) (j i : ℕ) (hj : j < rows t) (hi : i <
   unfolding leads place_by
   below_or_arm =
       below_and_along (λ k. stands_by t j i k && leads k)
-      ∙ rw (and-false (stands_by t j i 4), and_true (stands_by t j i 5), along-arm p t table j i hj hi)
+      ∙ rw (and-false (stands_by t j i 4), and-true (stands_by t j i 5), along-arm p t table j i hj hi)
 
   pub dust-to-weak : edge_in (near_of t) (classes_of p t) DustToWeak j i ≡ dust_to_weak p t j i
   unfolding edge_in sink_of dust_to_weak_by leads

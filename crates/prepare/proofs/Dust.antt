@@ -1,7 +1,7 @@
 -- Laws: the edges that lead to dust from its neighbours, of a table's columns and of the table.
 -- Assumes nothing.
 use mathlib.Core.Path.{◌≡◌, refl, ap, sym, ◌∙◌}
-use mathlib.Core.Bool.{Bool, true, false, cond, not, ◌&&◌, ◌||◌, false≢true, and_true, and_assoc, and_comm}
+use mathlib.Core.Bool.{Bool, true, false, cond, not, ◌&&◌, ◌||◌, false≢true, and-true, and_assoc, and_comm}
 use Prim.Native.Nat.{ℕ, ◌+◌, ◌-◌, ◌<◌}
 use native.Mathlib.Omega.{arith}
 use lib.Dec.{eqb, leb}
@@ -81,8 +81,8 @@ module _ (p t : Bytes) (table : Table t) (j i : ℕ) (hj : j < rows t) (hi : i <
       let h = in-range t table i hi in
       above_below_along (λ k. stands_by t j i k && touched k)
       ∙ rw (
-        and_true (stands_by t j i 4),
-        and_true (stands_by t j i 5),
+        and-true (stands_by t j i 4),
+        and-true (stands_by t j i 5),
         same_back level up level q r g h,
         same_back level down level q r g h,
         same_back level level down q r g h,

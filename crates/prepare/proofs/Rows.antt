@@ -1,7 +1,7 @@
 -- Laws: the entries of a table's two columns. An entry of `near` is the row i where row i stands at that place, and only there.
 -- Assumes nothing.
 use mathlib.Core.Path.{◌≡◌, refl, sym, ◌∙◌}
-use mathlib.Core.Bool.{Bool, true, false, ◌&&◌, true≢false, and_true, and-false}
+use mathlib.Core.Bool.{Bool, true, false, ◌&&◌, true≢false, and-true, and-false}
 use mathlib.Core.Logic.{by_cases}
 use Prim.Native.Nat.{ℕ, ◌≤◌, ◌<◌}
 use native.Mathlib.Decide.{ℕ_discrete}
@@ -92,7 +92,7 @@ module _ (t : Bytes) (table : Table t) (i : ℕ) (inside : i < rows t) where
   is_sink test x = by_cases (ℕ_discrete x i) (λ e. rw e (go (test i))) (λ n. rw (ne_eqb x i n) (gone n (test x)))
     where
       go : (b : Bool) → eqb (sink_if b i) i ≡ (eqb i i && b)
-      go true = sym (and_true (eqb i i))
+      go true = sym (and-true (eqb i i))
       go false = no-row ∙ sym (and-false (eqb i i))
 
       gone : ¬ (x ≡ i) → (b : Bool) → eqb (sink_if b x) i ≡ false

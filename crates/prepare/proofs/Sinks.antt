@@ -1,7 +1,7 @@
 -- Laws: an edge of the columns, as a test at each place by a row of an accepted table; and what it asks of the two rows, factored out.
 -- Assumes nothing.
 use mathlib.Core.Path.{◌≡◌, refl, ap, ap₂, sym, ◌∙◌}
-use mathlib.Core.Bool.{Bool, true, false, ◌&&◌, ◌||◌, and_true, and-false, or_true, or_false, and_assoc, or_assoc, and_comm, or_comm, and-or_distrib_left, and-or_distrib_right}
+use mathlib.Core.Bool.{Bool, true, false, ◌&&◌, ◌||◌, and-true, and-false, or-true, or-false, and_assoc, or_assoc, and_comm, or_comm, and-or_distrib_left, and-or_distrib_right}
 use mathlib.Core.List.{Memᴰ}
 use Prim.Native.Nat.{ℕ, zero, suc, ◌+◌, ◌≤◌, ◌<◌}
 use native.Mathlib.Omega.{arith}
@@ -44,7 +44,7 @@ some_same f g (suc n) h = ap₂ ◌||◌ (some_same f g n (λ k l. h k (omega ar
 -- ---- the order of a test's parts
 
 pub or_left : (a b c : Bool) → (a || (b || c)) ≡ (b || (a || c))
-or_left true b c = sym (or_true b)
+or_left true b c = sym (or-true b)
 or_left false b c = refl
 
 pub and_left : (a b c : Bool) → (a && (b && c)) ≡ (b && (a && c))
@@ -53,7 +53,7 @@ and_left false b c = sym (and-false b)
 
 -- what sorts the parts of a disjunction of conjunctions
 pub ruleset sorted =
-    (and_true, and-false, or_false, and-or_distrib_left, and-or_distrib_right, and_assoc, and_comm, and_left, or_assoc, or_comm, or_left)
+    (and-true, and-false, or-false, and-or_distrib_left, and-or_distrib_right, and_assoc, and_comm, and_left, or_assoc, or_comm, or_left)
 
 -- ---- the four facings
 

@@ -8,7 +8,7 @@ use native.Mathlib.Decide.{dec_lt, ℕ_discrete}
 use native.Mathlib.Omega.{arith}
 use lib.ListN.{length}
 use lib.Dec.{eqb, leb, ltb}
-use borrow.Author.Tests.{eqb-true, eq-eqb, ne_eqb, leb-true, le-leb, ltb-true, ltb-false, le-ltb, lt-ltb, not_false}
+use borrow.Author.Tests.{eqb-true, eq-eqb, ne_eqb, leb-true, le-leb, ltb-true, ltb-false, le-ltb, lt-ltb, not-false}
 use Rattle.columns.specs.declared.Found.TheVariants.{At}
 use Rattle.columns.specs.Column.{Bytes}
 use Rattle.blocks.specs.Kind.{Comparator}
@@ -42,12 +42,12 @@ accepted_rows kinds t h =
     let (ordered, d) = passed_rows 5 1 (is_misplaced t) (rows t - 1) _ e in
     let (low, _) = passed_rows 10 0 (is_overdriven t) (rows t) _ d in
     let whole : length t % 32 ≡ 0 = eqb-true _ _ a in
-    let both : (i : ℕ) → i < rows t → (good_row t i ≡ true) × (ltb (kind_of t i) kinds ≡ true) = λ i l. and_true _ _ (not_false _ (good i l)) in (
+    let both : (i : ℕ) → i < rows t → (good_row t i ≡ true) × (ltb (kind_of t i) kinds ≡ true) = λ i l. and_true _ _ (not-false _ (good i l)) in (
       record {
         whole = omega arith;
         few = leb-true _ _ b;
         good = λ i l. (both i l).0;
-        ordered = λ i l. not_false _ (ordered i (omega arith));
+        ordered = λ i l. not-false _ (ordered i (omega arith));
         low = λ i l k. ltb-false _ _ (rw k at (low i l));
       },
       λ i l. ltb-true _ _ (both i l).1,

@@ -2,7 +2,7 @@
 -- Assumes nothing.
 use mathlib.Core.Path.{◌≡◌, refl, ap, sym, ◌∙◌}
 use mathlib.Core.Logic.{by_cases}
-use mathlib.Core.Bool.{Bool, true, false, not, ◌&&◌, true≢false, and_true, and-false}
+use mathlib.Core.Bool.{Bool, true, false, not, ◌&&◌, true≢false, and-true, and-false}
 use Prim.Native.Nat.{ℕ, ◌%◌, ◌≤◌, ◌<◌, zero-le}
 use native.Mathlib.Nat.{add-zero}
 use native.Mathlib.Decide.{dec_lt, ℕ_discrete}
@@ -49,7 +49,7 @@ pub check_with_bulb : (p t : Bytes) → length p ≡ 13 → ((i : ℕ) → i < r
     → check_input (with_bulb p b) t ≡ check_input p t
 unfolding check_input check_table check_rows
 check_with_bulb p t long none b low =
-    let good : good_profile (with_bulb p b) ≡ good_profile p = good_with_bulb p b long ∙ rw (le-leb b 31 low) (and_true (good_profile p)) in
+    let good : good_profile (with_bulb p b) ≡ good_profile p = good_with_bulb p b long ∙ rw (le-leb b 31 low) (and-true (good_profile p)) in
     let found : first_from (is_bad 14 t) (rows t) 0 ≡ first_from (is_bad 13 t) (rows t) 0 =
     first_same (is_bad 14 t) (is_bad 13 t) (rows t) 0 (λ i _ l. same_bad i (none i (omega arith))) in
     rw (good, length_with_bulb p b long, long, found) refl

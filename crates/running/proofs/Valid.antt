@@ -7,7 +7,7 @@ use native.Mathlib.Nat.{max-le}
 use native.Mathlib.Omega.{arith}
 use lib.ListN.{length}
 use lib.Dec.{eqb}
-use borrow.Author.Tests.{eqb-true, eq-eqb, ltb-true, not_false}
+use borrow.Author.Tests.{eqb-true, eq-eqb, ltb-true, not-false}
 use Rattle.columns.specs.Column.{Bytes}
 use Rattle.columns.specs.Signal.{max_signal}
 use Rattle.columns.proofs.Columns.{length_tabulate, row_tabulate}
@@ -46,7 +46,7 @@ pub valid_state : (t st : Bytes) → IsValidState t st → Stated t st
 unfolding check_state
 valid_state t st h =
     let v = passed_values (eqb (length st) (rows t * 16)) (is_bad_state t st) (device_in st) (rows t) h in
-    record { sized = eqb-true _ _ v.of_size; good = λ i l. not_false _ (v.good i l); low = v.low }
+    record { sized = eqb-true _ _ v.of_size; good = λ i l. not-false _ (v.good i l); low = v.low }
 
 pub state_valid : (t st : Bytes) → Stated t st → IsValidState t st
 unfolding check_state
@@ -60,7 +60,7 @@ unfolding check_state
 overdriven_state t st i h =
     let (_, good, first) = values_given_overdriven (eqb (length st) (rows t * 16)) (is_bad_state t st) (device_in st) (rows t) i h in
     let above : max_signal < device_in st i = ltb-true _ _ first.holds in
-    let valid = parts t i (sixteen st i) (not_false _ (good i (omega (arith, first.inside)))) in
+    let valid = parts t i (sixteen st i) (not-false _ (good i (omega (arith, first.inside)))) in
     (above_15 (kind_of t i) (device_in st i) valid.device above, above)
 
 -- ---- the devices of a valid state, and of a fresh one

@@ -1,7 +1,7 @@
 -- Laws of a column whose rows are raised.
 -- Assumes nothing.
 use mathlib.Core.Path.{◌≡◌, refl, sym, ◌∙◌}
-use mathlib.Core.Bool.{Bool, true, false, cond, ◌||◌, or_false}
+use mathlib.Core.Bool.{Bool, true, false, cond, ◌||◌, or-false}
 use mathlib.Core.Logic.{by_cases}
 use Prim.Native.Nat.{ℕ, ◌≤◌, ◌<◌, max}
 use native.Mathlib.Decide.{ℕ_discrete}
@@ -60,7 +60,7 @@ module _ (s : Column) (r : ℕ → Bool) (x level : ℕ) where
   either : (m : ℕ) → max (cond (r m) level 0) (cond (eqb m x) level 0) ≡ cond (r m || eqb x m) level 0
   either m =
       by_cases (ℕ_discrete x m) (λ e. rw (e, eq-eqb m m refl) (go (r m)))
-      (λ n. rw (ne_eqb x m n, ne_eqb m x (λ e. n (sym e)), or_false) (omega arith))
+      (λ n. rw (ne_eqb x m n, ne_eqb m x (λ e. n (sym e)), or-false) (omega arith))
     where
       go : (b : Bool) → max (cond b level 0) level ≡ cond (b || true) level 0
       go true = omega arith

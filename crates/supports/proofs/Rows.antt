@@ -1,7 +1,7 @@
 -- Laws of the row of a support.
 -- Assumes nothing.
 use mathlib.Core.Path.{◌≡◌, refl, ap, sym, ◌∙◌}
-use mathlib.Core.Bool.{Bool, true, false, ◌&&◌, and_true}
+use mathlib.Core.Bool.{Bool, true, false, ◌&&◌, and-true}
 use Prim.Native.Nat.{ℕ}
 use Rattle.columns.specs.declared.Found.{Found}
 use Rattle.columns.specs.declared.Found.TheVariants.{At, Nothing}
@@ -30,4 +30,4 @@ module _ (p t : Bytes) (i : ℕ) where
   -- the row is supported where one is found
   pub supported_found : is_supported p t i ≡ on_found (λ j. true) false (support_row p t i)
   unfolding is_supported
-  supported_found = ap (λ f. on_found f false (find_at t (support_of t i))) (λ x j. sym (and_true (traits p t j).supports) x) ∙ sym (on_support (λ j. true))
+  supported_found = ap (λ f. on_found f false (find_at t (support_of t i))) (λ x j. sym (and-true (traits p t j).supports) x) ∙ sym (on_support (λ j. true))

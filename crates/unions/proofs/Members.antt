@@ -6,7 +6,7 @@ use mathlib.Core.Logic.{◌⊎◌, inl, inr, ⊎_elim}
 use mathlib.Core.Bool.{Bool, true, false, cond, not, true≢false}
 use mathlib.Core.List.Memᴰ
 use mathlib.Core.List.{List, [], ◌∷◌, Memᴰ}
-use borrow.Author.Tests.{not_true}
+use borrow.Author.Tests.{not-true}
 use Rattle.columns.specs.Column.{Bytes, same}
 use Rattle.columns.proofs.Columns.{same_true, same_refl}
 use Rattle.columns.proofs.Members.{all_member}
@@ -100,7 +100,7 @@ one_clashes r rs (s ∷ rest) m h =
       in_first = m;
       in_second = Memᴰ.head refl;
       shared = same_pos_true (place_of r) (place_of s) there;
-      differ = λ f. true≢false (sym (same_refl s) ∙ rw f at (not_true (same r s) differ));
+      differ = λ f. true≢false (sym (same_refl s) ∙ rw f at (not-true (same r s) differ));
     })
     (λ e. let c = one_clashes r rs rest m e in record { one = c.one; other = c.other; in_first = c.in_first; in_second = Memᴰ.tail c.in_second; shared = c.shared; differ = c.differ })
     (or_true (clashes r s) (any_of (clashes r) rest) h)

@@ -6,7 +6,7 @@ use mathlib.Core.Logic.{⊎_elim, by_cases}
 use Prim.Native.Nat.{ℕ, zero, suc, ◌+◌, ◌-◌, ◌≤◌, ◌<◌}
 use native.Mathlib.Decide.{dec_lt}
 use native.Mathlib.Omega.{arith}
-use borrow.Author.Tests.{not_true, not_false}
+use borrow.Author.Tests.{not-true, not-false}
 use Rattle.columns.specs.Column.{Bytes}
 use Rattle.columns.specs.declared.Found.{Found}
 use Rattle.columns.specs.declared.Found.TheVariants.{At, Nothing}
@@ -58,7 +58,7 @@ module _ (t : Bytes) (q : Pos) (i : ℕ) (h : find t q ≡ At i) where
         from = omega arith;
         inside = first.inside;
         holds = stands;
-        earlier = λ j l m. before_elsewhere (pos_of t j) q (not_false _ (first.earlier j l m));
+        earlier = λ j l m. before_elsewhere (pos_of t j) q (not-false _ (first.earlier j l m));
       })
 
 -- row k is found at q where it stands there and the rows ahead of it come before q
@@ -129,14 +129,14 @@ module _ (t : Bytes) (order : InOrder t) where
     where
       go : (x : Found) → first_at_or_past t q ≡ x → if_standing t q x ≡ first_from (stands_at t q) (rows t) 0
       go Nothing e =
-          sym (none_first (stands_at t q) (rows t) 0 (λ j l m. before_elsewhere (pos_of t j) q (not_false _ (first-none (is_at_or_past t q) (rows t) 0 e j l m))))
+          sym (none_first (stands_at t q) (rows t) 0 (λ j l m. before_elsewhere (pos_of t j) q (not-false _ (first-none (is_at_or_past t q) (rows t) 0 e j l m))))
       go (At k) e = here (stands_at t q k) refl
         where
           first : IsFirst (is_at_or_past t q) 0 (rows t) k
           first = first_at (is_at_or_past t q) (rows t) 0 k e
 
           earlier : (j : ℕ) → j < k → same_pos (pos_of t j) q ≡ false
-          earlier j l = before_elsewhere (pos_of t j) q (not_false _ (first.earlier j (omega arith) l))
+          earlier j l = before_elsewhere (pos_of t j) q (not-false _ (first.earlier j (omega arith) l))
 
           here : (b : Bool) → stands_at t q k ≡ b → found_if b k Nothing ≡ first_from (stands_at t q) (rows t) 0
           here true s =
@@ -149,7 +149,7 @@ module _ (t : Bytes) (order : InOrder t) where
                   (λ same.
                   ⊎_elim (λ (at : pos_of t k ≡ q). true≢false (sym (rw at (same_pos_refl q)) ∙ s))
                   (λ past. true≢false (sym (rw same past) ∙ later_not_before k j l m))
-                  (at_or_past (pos_of t k) q (not_true _ first.holds)))
+                  (at_or_past (pos_of t k) q (not-true _ first.holds)))
 
   -- nothing is found only where no row stands
   pub find_none : (q : Pos) → find t q ≡ Nothing → (i : ℕ) → i < rows t → pos_of t i ≡ q → ⊥

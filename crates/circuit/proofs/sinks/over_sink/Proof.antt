@@ -1,5 +1,5 @@
 -- `circuit::sinks::over_sink` meets its contract. Assumes nothing.
-use mathlib.Core.Bool.{and_true, and-false}
+use mathlib.Core.Bool.{and-true, and-false}
 use borrow.Author.Rules.{rules}
 use Rattle.circuit.proofs.sinks.over_sink.Statement.{statement}
 use Rattle.circuit.proofs.sinks.over_sink.Tie as tie
@@ -25,7 +25,7 @@ sink-if-requires c κs = search rules
 returns : tie.Need-returns
 returns c =
     let risen = c.before.before.before.before in
-    rw (← risen.before.before.class-at.ensures, ← risen.before.rises-by-in.ensures, risen.if1.true, and_true, ← c.before.before.before.beside.ensures, ← c.before.before.class-at2.ensures, ← c.before.is-dust-in.ensures) c.sink-if.ensures
+    rw (← risen.before.before.class-at.ensures, ← risen.before.rises-by-in.ensures, risen.if1.true, and-true, ← c.before.before.before.beside.ensures, ← c.before.before.class-at2.ensures, ← c.before.is-dust-in.ensures) c.sink-if.ensures
 
 cast-result : tie.Need-overflow-cast-result
 cast-result c = search rules

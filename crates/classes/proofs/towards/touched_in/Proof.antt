@@ -1,5 +1,5 @@
 -- `classes::towards::touched_in` meets its contract. Assumes nothing.
-use mathlib.Core.Bool.{and_true}
+use mathlib.Core.Bool.{and-true}
 use borrow.Author.Tests.{lt-ltb, le-ltb}
 use borrow.Author.Rules.{rules}
 use Rattle.classes.proofs.towards.touched_in.Statement.{statement}
@@ -21,7 +21,7 @@ is-dust-in-requires-2 : tie.Need-is-dust-in-requires-2
 is-dust-in-requires-2 c κs = search rules
 
 returns-2 : tie.Need-returns-2
-returns-2 c = rw (le-ltb _ 4 c.before.if1.false, and_true) c.is-dust-in2.ensures
+returns-2 c = rw (le-ltb _ 4 c.before.if1.false, and-true) c.is-dust-in2.ensures
 
 pub touched-in-spec : {M : Type 1} → statement M
 touched-in-spec =

@@ -2,7 +2,7 @@
 use mathlib.Core.Path.{◌≡◌, refl, sym, ◌∙◌}
 use Prim.Native.Nat.{◌+◌, ◌-◌, ◌≤◌}
 use native.Mathlib.Omega.{arith}
-use borrow.Author.Tests.{not_true, not_false}
+use borrow.Author.Tests.{not-true, not-false}
 use borrow.Author.Rules.{rules}
 use Rattle.wire.specs.declared.transfer.DustTransfer.TheVariants.{NoTransfer}
 use Rattle.arms.specs.Arms.{arm_of}
@@ -72,7 +72,7 @@ between c =
 
 returns-3 : tie.Need-returns-3 invariant-heights decreases-heights invariant-facings decreases-facings
 unfolding transfer_by
-returns-3 c = sym (between c.before ∙ rw (← c.before.are-dust.ensures, not_true c.before.are-dust.result c.if1.true))
+returns-3 c = sym (between c.before ∙ rw (← c.before.are-dust.ensures, not-true c.before.are-dust.result c.if1.true))
 
 facings-holds : tie.Need-facings-init invariant-heights decreases-heights invariant-facings decreases-facings
 facings-holds c = (omega arith, omega arith, refl, refl)
@@ -116,7 +116,7 @@ first : (c : tie.Else1 invariant-heights decreases-heights invariant-facings dec
     let j = i.before.before.before.before in
     let a = j.before.before.before.before.before.args in
     dust_transfer a.profile.now a.table.now a.source a.sink ≡ from_facing (arm_of a.profile.now a.table.now) a.profile.now a.table.now j.j.given.0.0 i.i.given.0.0 1
-first c = between c.before ∙ from_first _ _ _ _ _ (sym c.before.are-dust.ensures ∙ not_false _ c.if1.false)
+first c = between c.before ∙ from_first _ _ _ _ _ (sym c.before.are-dust.ensures ∙ not-false _ c.if1.false)
 
 returns-4 : tie.Need-returns-4 invariant-heights decreases-heights invariant-facings decreases-facings
 returns-4 c =

@@ -4,4 +4,4 @@ use borrow.Author.Rules.{rules}
 use Rattle.world.proofs.find.find_at.Goals as goal
 
 pub returns-in-There : goal.returns-in-There
-returns-in-There c = rw c.place-1.given.1 c.find.ensures
+returns-in-There c = rw c.in-There.is c.find.ensures

@@ -14,7 +14,7 @@ pub returns-then-x_of-q : goal.returns-then-x_of-q
 unfolding pos_of before
 returns-then-x_of-q c = let s = c in
     let x = c.x_of in
-    let fx : SFits w32 x.result = sfits_of x.type-inv in
+    let fx : SFits w32 x.result = sfits_of x.type_inv in
     let fq : SFits w32 s.args.q.x = search rules in
     let less : lt_z x.result s.args.q.x ≡ true = rw (back32 x.result fx, back32 s.args.q.x fq) at c.if-x_of-q.true in
     rw (← x.ensures, less)

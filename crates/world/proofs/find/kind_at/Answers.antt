@@ -6,8 +6,8 @@ use Rattle.world.proofs.find.kind_at.Goals as goal
 
 pub returns-in_default : goal.returns-in_default
 unfolding kind_at
-returns-in_default c = rw (sym c.find.ensures ∙ c.enum_told-1.given.1)
+returns-in_default c = rw (sym c.find.ensures ∙ c.in_default.is)
 
 pub returns : goal.returns
 unfolding kind_at
-returns c = rw (sym c.find.ensures ∙ c.i-1.given.1) c.kind_of.ensures
+returns c = rw (sym c.find.ensures ∙ c.in-At.is) c.kind_of.ensures

@@ -9,7 +9,7 @@ pub returns : goal.returns
 returns c = let s3 = c.signed-3 in
     let s2 = c.signed-2 in
     let s1 = c.signed in
-    let f1 : SFits w32 s1.result = sfits_of s1.type-inv in
-    let f2 : SFits w32 s2.result = sfits_of s2.type-inv in
-    let f3 : SFits w32 s3.result = sfits_of s3.type-inv in
+    let f1 : SFits w32 s1.result = sfits_of s1.type_inv in
+    let f2 : SFits w32 s2.result = sfits_of s2.type_inv in
+    let f3 : SFits w32 s3.result = sfits_of s3.type_inv in
     rw (c.new.ensures, back32 _ f1, back32 _ f2, back32 _ f3, s1.ensures, s2.ensures, s3.ensures)

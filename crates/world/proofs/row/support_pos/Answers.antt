@@ -24,7 +24,7 @@ returns c = let first = c.byte_of in
     let bx = c.byte_of-2 in
     let by = c.byte_of-3 in
     let bz = c.byte_of-4 in
-    let fx : SFits w32 x.result = sfits_of x.type-inv in
-    let fy : SFits w32 y.result = sfits_of y.type-inv in
-    let fz : SFits w32 z.result = sfits_of z.type-inv in
+    let fx : SFits w32 x.result = sfits_of x.type_inv in
+    let fy : SFits w32 y.result = sfits_of y.type_inv in
+    let fz : SFits w32 z.result = sfits_of z.type_inv in
     rw (eq-eqb _ 1 (sym first.ensures ∙ given), c.offset.ensures, c.pos_of.ensures, back32 _ fx, back32 _ fy, back32 _ fz, x.ensures, y.ensures, z.ensures, bx.ensures, by.ensures, bz.ensures)

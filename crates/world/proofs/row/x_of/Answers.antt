@@ -7,5 +7,5 @@ use borrow.Author.Rules.{rules, sfits_of}
 use Rattle.world.proofs.row.x_of.Goals as goal
 
 pub returns : goal.returns
-returns c = let f : SFits w32 c.signed.result = sfits_of c.signed.type-inv in
+returns c = let f : SFits w32 c.signed.result = sfits_of c.signed.type_inv in
     rw (← c.word_of.ensures) (back32 _ f ∙ c.signed.ensures)
