@@ -3,4 +3,4 @@ use borrow.Author.Rules.{rules}
 use Rattle.refusals.proofs.answer.Goals as goal
 
 pub returns-in-Refused : goal.returns-in-Refused
-returns-in-Refused c = rw c.checked-1.given.1
+returns-in-Refused c = rw c.in-Refused.is

@@ -6,8 +6,8 @@ use Rattle.traits.proofs.traits_at.Goals as goal
 
 pub returns-in_default : goal.returns-in_default
 unfolding traits_at
-returns-in_default c = rw (sym c.find.ensures ∙ c.enum_told-1.given.1) c.nothing.ensures
+returns-in_default c = rw (sym c.find.ensures ∙ c.in_default.is) c.nothing.ensures
 
 pub returns : goal.returns
 unfolding traits_at
-returns c = rw (sym c.find.ensures ∙ c.i-1.given.1) c.redstone_traits.ensures
+returns c = rw (sym c.find.ensures ∙ c.in-At.is) c.redstone_traits.ensures

@@ -12,12 +12,8 @@ use Rattle.columns.specs.First.{first_from}
 use Rattle.columns.specs.Signal.{max_signal}
 use Rattle.columns.proofs.First.{scan_hit, scan_miss, scan_over}
 use Rattle.refusals.specs.Check.{is_overdriven_device}
+use Rattle.refusals.proofs.scan.first_overdriven_device.Invariants.{test}
 use Rattle.refusals.proofs.scan.first_overdriven_device.Goals as goal
-
--- the test of each row
-
-abbrev test : Bytes → ℕ → ℕ → Bool
-test bytes width = is_overdriven_device (λ i. get_or bytes (i * width) 0)
 
 pub loop-i-init : goal.loop-i-init
 loop-i-init c = (omega arith, c.requires, rw sub-zero)

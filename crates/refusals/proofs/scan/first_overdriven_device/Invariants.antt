@@ -14,6 +14,10 @@ use Rattle.columns.proofs.First.{scan_hit, scan_miss, scan_over}
 use Rattle.refusals.specs.Check.{is_overdriven_device}
 use Rattle.refusals.proofs.scan.first_overdriven_device.Given as goal
 
+-- the test of each row
+abbrev pub test : Bytes → ℕ → ℕ → Bool
+test bytes width = is_overdriven_device (λ i. get_or bytes (i * width) 0)
+
 abbrev pub invariant-loop-i : goal.invariant-loop-i
 invariant-loop-i l = (l.i ≤ l.rows) × (length l.bytes ≡ l.rows * l.width) × (first_from (test l.bytes l.width) l.rows 0 ≡ first_from (test l.bytes l.width) (l.rows - l.i) l.i)
 
