@@ -1,0 +1,40 @@
+-- Answers of `adjacency::fill_places`.
+use borrow.Author.Rules.{rules}
+use Prim.Native.Nat.{◌-◌}
+use native.Mathlib.Omega.{arith}
+use Rattle.classes.specs.Towards.{places}
+use Rattle.adjacency.proofs.Found.{placed_long}
+use Rattle.adjacency.proofs.Placing.{Placing, placing_none, placing_fits, placing_room, placing_more, placing_all}
+use Rattle.adjacency.proofs.fill_places.Goals as goal
+
+pub loop-place-init : goal.loop-place-init
+loop-place-init c = let s = c in placing_none (placed_long s.requires.0) s.requires.2
+
+pub overflow_mul-start : goal.overflow_mul-start
+overflow_mul-start c = omega (arith, placing_fits c.loop-place.invariant (omega arith))
+
+pub overflow_add-end : goal.overflow_add-end
+overflow_add-end c = omega (arith, placing_fits c.loop-place.invariant (omega arith))
+
+pub offset_bounds-near-start : goal.offset_bounds-near-start
+offset_bounds-near-start c = omega (arith, placing_fits c.loop-place.invariant (omega arith))
+
+pub slice_bounds-fill_place-count : goal.slice_bounds-fill_place-count
+slice_bounds-fill_place-count c = omega (arith, placing_fits c.loop-place.invariant (omega arith))
+
+pub slice_bounds-fill_place-start : goal.slice_bounds-fill_place-start
+slice_bounds-fill_place-start c = omega (arith, placing_fits c.loop-place.invariant (omega arith))
+
+pub slice_bounds-fill_place-end : goal.slice_bounds-fill_place-end
+slice_bounds-fill_place-end c = omega (arith, placing_fits c.loop-place.invariant (omega arith))
+
+pub fill_place-requires : goal.fill_place-requires
+fill_place-requires c = let l = c in
+    let s = l in
+    (s.requires.0, s.requires.1, placing_room l.loop-place.invariant (omega arith), omega arith)
+
+pub loop-place-preserved : goal.loop-place-preserved
+loop-place-preserved c = placing_more c.loop-place.invariant (omega arith) c.fill_place.ensures
+
+pub returns : goal.returns
+returns c = placing_all c.loop-place.invariant (omega arith)

@@ -1,0 +1,15 @@
+-- `clear::clear_pass` meets its contract. The loop's invariant: of the rows passed, those that go are marked. Assumes nothing.
+use borrow.Author.Rules.{rules}
+use mathlib.Core.Path.{◌≡◌, sym, ◌∙◌}
+use mathlib.Core.Logic.{⊎_elim}
+use Prim.Native.Nat.{◌≤◌, ◌<◌, ◌-◌}
+use native.Mathlib.Omega.{arith}
+use lib.ListN.{length}
+use Rattle.clear.proofs.Marking.{Marking, marking_none, goes_then, marking_pass, marking_more, marking_all, marking_any}
+use Rattle.clear.proofs.clear_pass.Given as goal
+
+abbrev pub invariant-loop-i : goal.invariant-loop-i
+invariant-loop-i l = (l.i ≤ length l.initial.passes) × Marking l.holders l.initial.passes l.pass l.i l.passes l.any
+
+abbrev pub decreases-loop-i : goal.decreases-loop-i
+decreases-loop-i l = length l.initial.passes - l.i

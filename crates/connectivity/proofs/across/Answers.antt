@@ -1,0 +1,23 @@
+-- `connectivity::across` meets its contract: in each arm the number is one of the arm's, or none of them. Assumes nothing.
+use mathlib.Core.Path.{ap₂}
+use mathlib.Core.Logic.{⊎_elim, inl, inr}
+use borrow.Author.Rules.{rules}
+use borrow.Author.Tests.{ne_eqb}
+use Rattle.connectivity.specs.declared.Sides.TheVariants.{Both}
+use Rattle.connectivity.specs.Ports.{across}
+use Rattle.connectivity.proofs.across.Goals as goal
+
+pub returns-in-1 : goal.returns-in-1
+unfolding across
+returns-in-1 c = let both = ap₂ Both c.beside.ensures c.beside-in-1.ensures in
+    ⊎_elim (λ e. rw e both) (λ e. rw e both) c.in-1.is
+
+pub returns-in-2 : goal.returns-in-2
+unfolding across
+returns-in-2 c = let both = ap₂ Both c.beside-in-2.ensures c.beside-in-2-2.ensures in
+    ⊎_elim (λ e. rw e both) (λ e. rw e both) c.in-2.is
+
+pub returns-in_default : goal.returns-in_default
+unfolding across
+returns-in_default c = let none = c.in_default.in_default-own.rest in
+    simp (ne_eqb _ 1 (λ e. none.0.1 (inl e)), ne_eqb _ 3 (λ e. none.0.1 (inr e)), ne_eqb _ 2 (λ e. none.1 (inl e)), ne_eqb _ 4 (λ e. none.1 (inr e)))

@@ -1,0 +1,15 @@
+-- `feeders::list_feeders` meets its contract. The loop's invariant: at the front are the feeders at the positions passed. Assumes nothing.
+use mathlib.Core.Path.{sym, ◌∙◌}
+use mathlib.Core.Logic.{⊎_elim}
+use Prim.Native.Nat.{◌-◌}
+use native.Mathlib.Omega.{arith}
+use borrow.Author.Rules.{rules}
+use Rattle.feeding.specs.Around.{feeder_in}
+use Rattle.feeders.proofs.Fed.{Fed, fed_none, fed_room, fed_pass, fed_more, fed_all}
+use Rattle.feeders.proofs.list_feeders.Given as goal
+
+abbrev pub invariant-loop-k : goal.invariant-loop-k
+invariant-loop-k l = Fed (feeder_in l.near l.class l.row) l.initial.entries l.k l.count l.entries
+
+abbrev pub decreases-loop-k : goal.decreases-loop-k
+decreases-loop-k l = 12 - l.k

@@ -1,0 +1,24 @@
+-- Answers of `keys::pass::pass_levels`.
+use borrow.Author.Rules.{rules}
+use mathlib.Core.Path.{◌≡◌}
+use Prim.Native.Nat.{◌-◌, ◌*◌, ◌≤◌}
+use native.Mathlib.Omega.{arith}
+use lib.ListN.{length}
+use Rattle.columns.specs.Column.{row}
+use Rattle.circuit.specs.declared.Edge.TheVariants.{Transmits}
+use Rattle.circuit.specs.Circuit.{edge_in}
+use Rattle.keys.specs.Pass.{Given}
+use Rattle.keys.proofs.Passing.{given_start, given_kept}
+use Rattle.keys.proofs.pass.pass_levels.Goals as goal
+
+pub loop-level-init : goal.loop-level-init
+loop-level-init c = (omega arith, given_start _ _ _ c.requires.1 c.requires.2)
+
+pub loop-level-preserved : goal.loop-level-preserved
+loop-level-preserved c = let l = c in
+    let fewer : 16 * l.loop-level.level - 16 ≡ 16 * (l.loop-level.level - 1) = omega arith in
+    (omega arith, rw fewer at (c.pass_level.ensures.next (row l.args.keys.now) l.loop-level.invariant.1))
+
+pub returns : goal.returns
+returns c = let last : c.loop-level.level ≡ 1 = omega (arith, c.loop-level.invariant.0) in
+    given_kept _ _ _ _ (rw last at c.loop-level.invariant.1)

@@ -1,0 +1,23 @@
+-- Answers of `keys::settle::fill_signals`.
+use borrow.Author.Rules.{rules}
+use mathlib.Core.Bool.{cond}
+use Prim.Native.Nat.{◌-◌}
+use native.Mathlib.Omega.{arith}
+use lib.ListN.{length}
+use Rattle.columns.specs.Column.{row}
+use Rattle.columns.proofs.Columns.{Filled, fills, filled_all}
+use Rattle.network.specs.Laws.Keys.{level_of}
+use Rattle.blocks.specs.Kind.{is_dust}
+use Rattle.classes.specs.Class.{kind_in}
+use Rattle.circuit.specs.Circuit.{signals_in}
+use Rattle.keys.proofs.settle.fill_signals.Goals as goal
+
+pub loop-i-init : goal.loop-i-init
+loop-i-init c = search (fills, rules)
+
+pub loop-i-preserved : goal.loop-i-preserved
+loop-i-preserved c = search (fills, rules)
+
+pub returns : goal.returns
+unfolding signals_in
+returns c = let start = c in rw start.requires.2 at (filled_all c.loop-i.invariant (omega arith))

@@ -1,0 +1,9 @@
+-- `keys::settle::fill_under` meets its contract. Assumes nothing.
+use Rattle.power.proofs.Spreading.{spread_zeros}
+use Rattle.keys.specs.Settle.{under_of}
+use borrow.Author.Rules.{rules}
+use Rattle.keys.proofs.settle.fill_under.Goals as goal
+
+pub returns : goal.returns
+unfolding under_of
+returns c = let start = c in spread_zeros _ _ _ _ start.requires.1 _ c.spread.ensures c.zeros.ensures start.requires.2

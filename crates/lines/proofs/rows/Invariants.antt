@@ -1,0 +1,20 @@
+-- `lines::rows` meets its contract. The loop's invariant: the lines of the first `i` rows are put. Assumes nothing.
+use mathlib.Core.Path.{◌≡◌, ap, ◌∙◌}
+use mathlib.Core.List.{◌++◌}
+use Prim.Native.Nat.{◌+◌, ◌*◌, ◌-◌, ◌≤◌}
+use native.Mathlib.Nat.{zero-add}
+use native.Mathlib.Omega.{arith}
+use borrow.Author.Rules.{rules}
+use Rattle.columns.specs.Column.{concat_rows_from, concat_rows}
+use Rattle.columns.proofs.Parts.{concat_rows_more}
+use Rattle.world.specs.Rows.{rows}
+use Rattle.text.specs.Put.{Puts}
+use Rattle.lines.specs.Lines.{row_of}
+use Rattle.text.proofs.Putting.{puts_none, puts_then, puts_length}
+use Rattle.lines.proofs.rows.Given as goal
+
+abbrev pub invariant-loop-i : goal.invariant-loop-i
+invariant-loop-i l = (l.i ≤ l.n) × (l.n ≡ rows l.table) × (l.end ≤ l.at + l.i * 49) × Puts (concat_rows l.i (row_of l.table l.signal l.weak l.strong)) l.at l.initial.out l.out l.end
+
+abbrev pub decreases-loop-i : goal.decreases-loop-i
+decreases-loop-i l = l.n - l.i

@@ -1,0 +1,10 @@
+-- `power::fill_base` meets its contract. Assumes nothing.
+use Rattle.circuit.specs.Circuit.{circuit}
+use Rattle.power.specs.Power.{base_of}
+use Rattle.power.proofs.Spreading.{spread_zeros}
+use borrow.Author.Rules.{rules}
+use Rattle.power.proofs.fill_base.Goals as goal
+
+pub returns : goal.returns
+unfolding base_of circuit
+returns c = let start = c in spread_zeros _ _ _ _ start.requires.1 _ c.spread.ensures c.zeros.ensures start.requires.2

@@ -1,0 +1,14 @@
+-- `power::fill_direct` meets its contract. Assumes nothing.
+use mathlib.Core.Path.{refl}
+use Rattle.circuit.specs.Circuit.{circuit}
+use Rattle.power.specs.Power.{direct_of}
+use Rattle.power.proofs.Spreading.{spread_over, spread_zeros}
+use borrow.Author.Rules.{rules}
+use Rattle.power.proofs.fill_direct.Goals as goal
+
+pub returns : goal.returns
+unfolding direct_of circuit
+returns c = let start = c in
+    spread_over _ _ _ _ start.requires.2 _ _ c.spread-2.ensures
+    (spread_zeros _ _ _ _ start.requires.1 _ c.spread.ensures c.zeros.ensures start.requires.3)
+    refl

@@ -1,0 +1,18 @@
+-- `replace::update_list` meets its contract. Assumes nothing.
+use mathlib.Core.Path.{◌∙◌}
+use Prim.Native.Nat.{◌*◌, ◌-◌, ◌≤◌}
+use native.Mathlib.Omega.{arith}
+use lib.ListN.{replicate}
+use lib.Seq.{length-take-le}
+use borrow.Author.Rules.{rules}
+use Rattle.replace.proofs.update_list.Goals as goal
+
+pub update_in-requires : goal.update_in-requires
+update_in-requires c = let n = c.rows-count in
+    let (table, long) = c.requires in
+    let few : n.result ≤ 1024 = omega (arith, n.ensures, table.few) in (
+      table,
+      length-take-le (7 * n.result - 0) (replicate 7168 0) (omega arith) ∙ omega (arith, n.ensures),
+      length-take-le (n.result - 0) (replicate 1024 0) (omega arith) ∙ omega (arith, n.ensures),
+      long,
+    )

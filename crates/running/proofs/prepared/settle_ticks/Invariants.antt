@@ -1,0 +1,13 @@
+-- `running::prepared::settle_ticks` meets its contract. The loop's invariant: so many ticks are done. Assumes nothing.
+use mathlib.Core.Path.{◌≡◌, sym, ◌∙◌}
+use Prim.Native.Nat.{◌-◌, ◌≤◌}
+use native.Mathlib.Omega.{arith}
+use Rattle.running.specs.Running.{ColumnLengths}
+use Rattle.running.proofs.Running.{lengths_kept, ready, Ticking, ticking_none, ticking_valid, ticking_long, ticking_more}
+use Rattle.running.proofs.prepared.settle_ticks.Given as goal
+
+abbrev pub invariant-loop-done : goal.invariant-loop-done
+invariant-loop-done l = (l.done ≤ l.count) × ColumnLengths l.table l.devices l.signal l.weak l.strong × Ticking l.done l.profile l.table l.initial.state l.state l.devices l.signal l.weak l.strong l.rounds
+
+abbrev pub decreases-loop-done : goal.decreases-loop-done
+decreases-loop-done l = l.count - l.done

@@ -1,0 +1,12 @@
+-- `spread::raise_around` meets its contract. The loop's invariant: the rows along the first f facings are raised. Assumes nothing.
+use Prim.Native.Nat.{◌-◌}
+use native.Mathlib.Omega.{arith}
+use borrow.Author.Rules.{rules}
+use Rattle.spread.proofs.RaisedSinks.{Around, around_none, around_more, around_spread}
+use Rattle.spread.proofs.raise_around.Given as goal
+
+abbrev pub invariant-loop-f : goal.invariant-loop-f
+invariant-loop-f l = Around l.near l.class l.j l.level l.initial.out l.f l.out
+
+abbrev pub decreases-loop-f : goal.decreases-loop-f
+decreases-loop-f l = 4 - l.f

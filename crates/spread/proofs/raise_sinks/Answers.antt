@@ -1,0 +1,17 @@
+-- Answers of `spread::raise_sinks`.
+use Prim.Native.Nat.{◌-◌}
+use native.Mathlib.Omega.{arith}
+use borrow.Author.Rules.{rules}
+use Rattle.circuit.specs.Circuit.{ways}
+use Rattle.spread.proofs.RaisedSinks.{Raised, raised_none, raised_more, raised_all}
+use Rattle.spread.proofs.raise_sinks.Goals as goal
+
+pub loop-k-init : goal.loop-k-init
+loop-k-init c = raised_none
+
+pub loop-k-preserved : goal.loop-k-preserved
+loop-k-preserved c = let turn = c in
+    raised_more turn.loop-k.invariant (omega arith) (rw (← turn.sink_of.ensures) turn.raise.ensures)
+
+pub returns : goal.returns
+returns c = raised_all c.loop-k.invariant (omega arith) c.requires.1

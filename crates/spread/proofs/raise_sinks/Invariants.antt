@@ -1,0 +1,13 @@
+-- `spread::raise_sinks` meets its contract. The loop's invariant: the rows that k ways lead to are raised. Assumes nothing.
+use Prim.Native.Nat.{◌-◌}
+use native.Mathlib.Omega.{arith}
+use borrow.Author.Rules.{rules}
+use Rattle.circuit.specs.Circuit.{ways}
+use Rattle.spread.proofs.RaisedSinks.{Raised, raised_none, raised_more, raised_all}
+use Rattle.spread.proofs.raise_sinks.Given as goal
+
+abbrev pub invariant-loop-k : goal.invariant-loop-k
+invariant-loop-k l = Raised l.edge l.near l.class l.j l.level l.initial.out l.k l.out
+
+abbrev pub decreases-loop-k : goal.decreases-loop-k
+decreases-loop-k l = ways l.edge - l.k

@@ -1,0 +1,17 @@
+-- `supports::list_issues` meets its contract. The loop's invariant: of the rows passed, those that lack a support are at the front. Assumes nothing.
+use borrow.Author.Rules.{rules}
+use mathlib.Core.Path.{◌≡◌, refl, sym, ◌∙◌}
+use mathlib.Core.Logic.{⊎_elim}
+use Prim.Native.Nat.{◌≤◌, ◌-◌}
+use native.Mathlib.Omega.{arith}
+use lib.ListN.{length, length-set}
+use Rattle.columns.proofs.Indices.{Listed, listed_none, listed_pass, listed_more}
+use Rattle.world.specs.Rows.{rows}
+use Rattle.supports.specs.Supports.{lacks_support, support_issues}
+use Rattle.supports.proofs.list_issues.Given as goal
+
+abbrev pub invariant-loop-i : goal.invariant-loop-i
+invariant-loop-i l = (l.i ≤ l.n) × (l.n ≡ rows l.table) × (length l.column ≡ length l.initial.column) × Listed (lacks_support l.profile l.table) l.i l.initial.column l.column l.count
+
+abbrev pub decreases-loop-i : goal.decreases-loop-i
+decreases-loop-i l = l.n - l.i

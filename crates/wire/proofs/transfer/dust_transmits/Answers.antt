@@ -1,0 +1,8 @@
+-- `wire::transfer::dust_transmits` meets its contract. Assumes nothing.
+use borrow.Author.Rules.{rules}
+use Rattle.wire.specs.Transfer.{dust_transmits}
+use Rattle.wire.proofs.transfer.dust_transmits.Goals as goal
+
+pub returns : goal.returns
+unfolding dust_transmits
+returns c = cc
