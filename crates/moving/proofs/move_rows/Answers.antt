@@ -31,7 +31,7 @@ loop-i-preserved c = let l = c in
     let t = s.args.table.now in
     let w = l.loop-i.invariant.2 in
     let e : i * 32 + 32 - i * 32 ≡ 32 = omega arith in
-    let row = rw (e, written_lent w) at c.Move-row.ensures in
+    let row = rw (e, written_lent w) at c.move_row.ensures in
     let moved = written_more w row (ap length row ∙ length_row s.args.by (part 32 t i) (length_part 32 t i (omega arith))) in
     (omega arith, search rules, rw e moved)
 

@@ -15,19 +15,9 @@ use Rattle.moving.specs.Move.{moved_by}
 use Rattle.moving.proofs.Offsets.{offset_place}
 use Rattle.moving.proofs.rows_stay.Goals as goal
 
--- the offset's coordinates are signed numbers of 32 bits
-fits : (c : goal.Start) → SFits w32 c.args.by.x × SFits w32 c.args.by.y × SFits w32 c.args.by.z
-fits c = (search rules, search rules, search rules)
-
 -- the code's test is that of the moved position
-tested : (c : goal.After-good_place) → let l = c in let a = l.args in c.good_place.result ≡ good_place (moved_by a.by (pos_of a.table.now l.loop-i.i))
-tested c =
-    let read = c in
-    let l = read in
-    let s = l in
-    let f = fits s in
-    rw (c.good_place.ensures, c.offset.ensures, read.pos_of.ensures, back32 _ f.0, back32 _ f.1, back32 _ f.2)
-    (offset_place s.args.by (pos_of s.args.table.now l.loop-i.i))
+tested : (by : Pos) (q o : Pos) (b : Bool) → SFits w32 by.x × SFits w32 by.y × SFits w32 by.z → b ≡ good_place o → o ≡ offset q (z_of (of_z by.x)) → b ≡ good_place (moved_by by q)
+tested = ?
 
 pub loop-i-init : goal.loop-i-init
 loop-i-init c = (omega arith, refl)
