@@ -1,13 +1,13 @@
 -- Answers of `moving::move_rows`.
 use mathlib.Core.Path.{◌≡◌, refl, ap, ◌∙◌}
-use Prim.Native.Nat.{◌*◌, ◌+◌, ◌-◌, ◌≤◌, ◌<◌}
+use Prim.Native.Nat.{◌*◌, ◌+◌, ◌-◌, ◌<◌}
 use native.Mathlib.Omega.{arith}
 use lib.ListN.{length}
 use borrow.Author.Rules.{rules}
 use Rattle.columns.specs.Column.{part}
-use Rattle.columns.proofs.Parts.{length_part, Written, written_none, written_lent, written_more, written_all}
+use Rattle.columns.proofs.Parts.{length_part, written_none, written_lent, written_more, written_all}
 use Rattle.world.specs.Rows.{rows}
-use Rattle.moving.specs.Move.{moved_row, moved_table}
+use Rattle.moving.specs.Move.{moved_table}
 use Rattle.layout.proofs.Fields.{part_place}
 use Rattle.moving.proofs.Moved.{length_row, stays}
 use Rattle.moving.proofs.move_rows.Goals as goal
