@@ -4,8 +4,7 @@ use mathlib.Core.Path.{◌≡◌, refl, ap, sym, ◌∙◌}
 use Prim.Native.Nat.{ℕ, ◌+◌, ◌≤◌, ◌<◌}
 use native.Mathlib.Omega.{arith}
 use lib.ListN.{length}
-use Rattle.columns.specs.Column.{Column}
-use Rattle.blocks.specs.Bytes.{Bytes}
+use Rattle.columns.specs.Column.{Bytes, Column}
 use Rattle.world.specs.Rows.{rows}
 use Rattle.adjacency.specs.Steps.{step_x, step_y, here}
 use Rattle.adjacency.specs.Search.{Placed, walked}
