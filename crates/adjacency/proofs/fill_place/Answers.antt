@@ -15,37 +15,31 @@ use Rattle.adjacency.proofs.Beside.{walked_by}
 use Rattle.adjacency.proofs.Opposite.{inverse_by}
 use Rattle.adjacency.proofs.fill_place.Goals as goal
 
-last_place : {k : ℕ} → k < 7 → ¬ (k ≡ 0) → ¬ (k ≡ 1) → ¬ (k ≡ 2) → ¬ (k ≡ 3) → ¬ (k ≡ 4) → ¬ (k ≡ 5) → k ≡ 6
-last_place l a b c d e f = omega arith
-
 -- a column of the rows at a step
-module _ {table : Bytes} {positions out x : Column} (placed : Placed table positions) (room : length out ≡ rows table) (step : ℕ) (e : x ≡ walked positions step) where
+module _ (table positions : Column) {x : Column} (placed : Placed table positions) (step : ℕ) (e : x ≡ walked positions step) where
   long : length x ≡ rows table
   long = rw e (walked_long positions step ∙ placed_long placed)
 
   few : length x ≤ 1024
   few = rw long placed.table.few
 
-  fits : length x ≡ length out
-  fits = long ∙ sym room
-
 pub invert-requires : goal.invert-requires
-invert-requires c = (few c.requires.0 c.requires.2 (here + 1) c.requires.1.south_is, sym (fits c.requires.0 c.requires.2 (here + 1) c.requires.1.south_is))
+invert-requires c = (few _ _ c.requires.0 (here + 1) c.requires.1.south_is, sym (long _ _ c.requires.0 (here + 1) c.requires.1.south_is ∙ sym c.requires.2))
 
 pub copy-requires : goal.copy-requires
-copy-requires c = fits c.requires.0 c.requires.2 (here + step_x) c.requires.1.east_is
+copy-requires c = long _ _ c.requires.0 (here + step_x) c.requires.1.east_is ∙ sym c.requires.2
 
 pub copy-requires-in-2 : goal.copy-requires-in-2
-copy-requires-in-2 c = fits c.requires.0 c.requires.2 (here + 1) c.requires.1.south_is
+copy-requires-in-2 c = long _ _ c.requires.0 (here + 1) c.requires.1.south_is ∙ sym c.requires.2
 
 pub invert-requires-in-3 : goal.invert-requires-in-3
-invert-requires-in-3 c = (few c.requires.0 c.requires.2 (here + step_x) c.requires.1.east_is, sym (fits c.requires.0 c.requires.2 (here + step_x) c.requires.1.east_is))
+invert-requires-in-3 c = (few _ _ c.requires.0 (here + step_x) c.requires.1.east_is, sym (long _ _ c.requires.0 (here + step_x) c.requires.1.east_is ∙ sym c.requires.2))
 
 pub copy-requires-in-4 : goal.copy-requires-in-4
-copy-requires-in-4 c = fits c.requires.0 c.requires.2 (here + step_y) c.requires.1.above_is
+copy-requires-in-4 c = long _ _ c.requires.0 (here + step_y) c.requires.1.above_is ∙ sym c.requires.2
 
 pub invert-requires-in-5 : goal.invert-requires-in-5
-invert-requires-in-5 c = (few c.requires.0 c.requires.2 (here + step_y) c.requires.1.above_is, sym (fits c.requires.0 c.requires.2 (here + step_y) c.requires.1.above_is))
+invert-requires-in-5 c = (few _ _ c.requires.0 (here + step_y) c.requires.1.above_is, sym (long _ _ c.requires.0 (here + step_y) c.requires.1.above_is ∙ sym c.requires.2))
 
 pub returns-in-0 : goal.returns-in-0
 returns-in-0 c = let p = c.requires in
@@ -72,4 +66,4 @@ returns-in-5 c = let p = c.requires in
     c.invert-in-5.ensures ∙ rw c.in-5.is (ap inverse p.1.above_is ∙ inverse_by p.0 step_y (omega arith) 5 (omega arith) refl)
 
 pub returns-in_default : goal.returns-in_default
-returns-in_default c = ?
+returns-in_default c = let last : c.args.place ≡ 6 = omega (arith, c.requires.3) in rw last c.fill_supports.ensures
