@@ -1,5 +1,5 @@
 /*
- * The proved redstone calls, for C on x86-64 Linux: link libredstone.a, which `rt staticlib redstone` builds.
+ * The proved redstone calls, for C on x86-64 Linux: link libredstone.a, which `bin/staticlib redstone` builds.
  *
  * Buffers. Each is a pointer and then its length in entries, and may have any length and content. Buffers that are only
  * read may be one or overlap, as redstone_merge's two tables; a buffer that is written may overlap no other. A pointer
