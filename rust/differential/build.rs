@@ -15,7 +15,7 @@ fn main() {
     println!("cargo:rerun-if-changed={}", library.display());
     if !library.is_file() {
         eprintln!(
-            "The proved functions are not built: run `rt staticlib probe` in the repository's root first."
+            "The proved functions are not built: run `bin/staticlib probe` in the repository's root first."
         );
         process::exit(1);
     }

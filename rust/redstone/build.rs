@@ -1,7 +1,7 @@
 //! Links the static library of the proved calls.
 //!
-//! It is taken from the folder that REDSTONE_LIB names, or else from `target/staticlib` of the repository, where
-//! `rt staticlib redstone` puts it. Missing there, or older than the crates that it is made of, it is built anew.
+//! It is taken from the folder that REDSTONE_LIB names, or else from `target/staticlib` of the repository. Missing there,
+//! or older than the crates that it is made of, it is built anew: `rt lib` leaves it in the folder of its crate.
 
 use std::collections::BTreeSet;
 use std::env;
@@ -11,9 +11,12 @@ use std::io::{self, BufRead, BufReader, ErrorKind, Write};
 use std::os::unix::process::parent_id;
 use std::path::{Path, PathBuf};
 use std::process::{Command, ExitStatus, exit};
-use std::time::SystemTime;
+use std::time::{Instant, SystemTime};
 
 const LIBRARY: &str = "libredstone.a";
+/// The crate that it is, and what `rt lib` makes of that crate.
+const CRATE: &str = "redstone_c";
+const MADE: &str = "out/libredstone_c.a";
 
 fn main() {
     refuse_other_targets();
@@ -100,11 +103,13 @@ fn built(root: &Path, sources: &Sources) -> PathBuf {
     };
     if let Some(reason) = reason {
         let began = SystemTime::now();
-        build(root, &reason);
-        let written = File::options().append(true).open(&library);
-        // A source that changes while the library is built is newer than the library.
-        if let Err(error) = written.and_then(|file| file.set_modified(began)) {
-            fail(&format!("`rt staticlib redstone` ran, but {} is not there: {error}.", library.display()));
+        let made = build(root, &reason);
+        if let Err(error) = take(&made, &library, began) {
+            fail(&format!(
+                "`rt lib` ran, but {} cannot be put at {}: {error}.",
+                made.display(),
+                library.display()
+            ));
         }
         if let Some(newer) = sources.newer_than(began) {
             fail(&format!("{} changed while the proved library was built: build again.", newer.display()));
@@ -113,8 +118,19 @@ fn built(root: &Path, sources: &Sources) -> PathBuf {
     library
 }
 
-/// Proves the crates that the library is made of, builds it, and shows how far that is.
-fn build(root: &Path, reason: &str) {
+/// Copies what was built to where it is linked from, as of the time at which its building began: a source that changes
+/// while the library is built is newer than the library.
+fn take(made: &Path, library: &Path, began: SystemTime) -> io::Result<()> {
+    fs::create_dir_all(library.parent().unwrap_or(Path::new("/")))?;
+    // Under another name first, so that nothing links half a library.
+    let new = library.with_extension("new");
+    fs::copy(made, &new)?;
+    File::options().append(true).open(&new)?.set_modified(began)?;
+    fs::rename(new, library)
+}
+
+/// Proves the crates that the library is made of, builds it, and shows how far that is. Where it is then.
+fn build(root: &Path, reason: &str) -> PathBuf {
     let Ok(list) = fs::read_to_string(root.join("crates.txt")) else {
         fail(&format!(
             "The proved library cannot be linked, for {reason}, nor built, for {} has no crates.txt: set REDSTONE_LIB \
@@ -124,41 +140,36 @@ fn build(root: &Path, reason: &str) {
     };
     let mut progress = Progress::new(needed(&list).len());
     progress.show(&format!(
-        "redstone: proving and building the library, since {reason}. From nothing it takes four to eight minutes."
+        "redstone: proving and building the library, since {reason}. From nothing it takes long, with a line for each crate."
     ));
-    // `rt staticlib` alone would prove them one after the other.
-    let check: Vec<_> = ["check"].into_iter().chain(needs(&list, "redstone")).collect();
-    for words in [&check[..], &["staticlib", "redstone"]] {
-        let command = format!("`rt {}`", words.join(" "));
-        match run(root, words, &mut progress) {
-            Ok((status, _)) if status.success() => {}
-            Ok((_, text)) => {
-                eprint!("{text}");
-                fail(&format!("{command} failed in {}; what it wrote stands above.", root.display()));
-            }
-            Err(error) if error.kind() == ErrorKind::NotFound => fail(&format!(
-                "The proved library has to be built, for {reason}, and there is no `rt` on the PATH to build it: \
-                 install the Rattle kit, or set REDSTONE_LIB to a folder that has {LIBRARY}."
-            )),
-            Err(error) => fail(&format!("{command} could not be run: {error}.")),
+    let folder = root.join("crates").join(CRATE);
+    match run(&folder, &mut progress) {
+        Ok((status, _)) if status.success() => folder.join(MADE),
+        Ok((_, text)) => {
+            eprint!("{text}");
+            fail(&format!("`rt lib` failed in {}; what it wrote stands above.", folder.display()));
         }
+        // So it is, too, where the folder is not there.
+        Err(error) if error.kind() == ErrorKind::NotFound && folder.is_dir() => fail(&format!(
+            "The proved library has to be built, for {reason}, and there is no `rt` on the PATH to build it: \
+             install the Rattle kit, or set REDSTONE_LIB to a folder that has {LIBRARY}."
+        )),
+        Err(error) => fail(&format!("`rt lib` could not be run in {}: {error}.", folder.display())),
     }
 }
 
-/// How rt ended, and all that it wrote.
-fn run(root: &Path, words: &[&str], progress: &mut Progress) -> io::Result<(ExitStatus, String)> {
+/// How `rt lib` ended, and all that it wrote.
+fn run(folder: &Path, progress: &mut Progress) -> io::Result<(ExitStatus, String)> {
     let (reader, writer) = io::pipe()?;
     let mut rt = Command::new("rt");
-    rt.args(words).current_dir(root).stdout(writer.try_clone()?).stderr(writer);
+    rt.arg("lib").current_dir(folder).stdout(writer.try_clone()?).stderr(writer);
     let mut running = rt.spawn()?;
     // The command holds the pipe's writing ends, and the text ends when they are closed.
     drop(rt);
     let mut text = String::new();
     for line in BufReader::new(reader).lines() {
         let line = line?;
-        if let Some(said) = line.strip_prefix("rt: ") {
-            progress.tell(said);
-        }
+        progress.tell(&line);
         text += &line;
         text.push('\n');
     }
@@ -170,21 +181,28 @@ struct Progress {
     terminal: Option<File>,
     crates: usize,
     proved: BTreeSet<String>,
+    /// The crate that rt named last, and when the one before it was proved.
+    named: String,
+    since: Instant,
 }
 
 impl Progress {
     fn new(crates: usize) -> Self {
         let terminal = OpenOptions::new().write(true).open("/dev/tty").ok();
-        Self { terminal, crates, proved: BTreeSet::new() }
+        Self { terminal, crates, proved: BTreeSet::new(), named: String::new(), since: Instant::now() }
     }
 
-    /// Shows what rt says: of a crate that is proved, once, with how many are.
-    fn tell(&mut self, said: &str) {
-        let Some((name, _)) = said.split_once(" proved (") else {
-            return self.show(&format!("redstone: {said}"));
-        };
-        if self.proved.insert(name.to_owned()) {
-            self.show(&format!("redstone: {said}, {} of {}", self.proved.len(), self.crates));
+    /// Shows of what rt writes its own words, and each crate that is proved, once, with how many are.
+    fn tell(&mut self, line: &str) {
+        if let Some(said) = line.strip_prefix("rt: ") {
+            self.show(&format!("redstone: {said}"));
+        } else if let Some((name, _)) = line.strip_prefix("crate ").and_then(|rest| rest.split_once(':')) {
+            name.clone_into(&mut self.named);
+        } else if line.starts_with("logic=proved ") && self.proved.insert(self.named.clone()) {
+            let seconds = self.since.elapsed().as_secs();
+            self.since = Instant::now();
+            let (name, proved) = (&self.named, self.proved.len());
+            self.show(&format!("redstone: {name} proved ({seconds} s), {proved} of {}", self.crates));
         }
     }
 
@@ -229,7 +247,7 @@ impl Sources {
 /// The crates that the library is made of.
 fn needed(list: &str) -> BTreeSet<&str> {
     let mut needed = BTreeSet::new();
-    let mut open = vec!["redstone"];
+    let mut open = vec![CRATE];
     while let Some(name) = open.pop() {
         if needed.insert(name) {
             open.extend(needs(list, name));
@@ -238,10 +256,10 @@ fn needed(list: &str) -> BTreeSet<&str> {
     needed
 }
 
-/// What a crate needs, by its line `name: needs ..` of crates.txt.
+/// What a crate needs, by its line `name: needs ..` of crates.txt, which has words of the crate after its name.
 fn needs<'a>(list: &'a str, name: &str) -> impl Iterator<Item = &'a str> {
     let mut lines = list.lines().filter_map(|line| line.split_once(':'));
-    let own = lines.find(|(known, _)| *known == name);
+    let own = lines.find(|(head, _)| head.split_whitespace().next() == Some(name));
     own.into_iter().flat_map(|(_, needs)| needs.split_whitespace())
 }
 

@@ -9,14 +9,14 @@ use std::{env, thread};
 
 /// The program of a name, or a sentence that says what is missing.
 pub fn find(name: &str) -> Result<OsString, String> {
-    let built = Path::new(env!("CARGO_MANIFEST_DIR")).join("../../target/bin").join(name);
+    let built = Path::new(env!("CARGO_MANIFEST_DIR")).join(format!("../../crates/{name}/out/{name}"));
     let variable = format!("{}_BIN", name.to_uppercase());
     let program = env::var_os(&variable).unwrap_or(built.into());
     if Path::new(&program).is_file() {
         return Ok(program);
     }
     Err(format!(
-        "The program `{name}` is not at {}: run `rt check {name}` in the repository's root first, or set {variable} to \
+        "The program `{name}` is not at {}: run `rt run` in crates/{name} of the repository first, or set {variable} to \
          where it is.",
         program.display()
     ))

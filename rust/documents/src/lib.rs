@@ -26,9 +26,21 @@ pub fn names_in(folder: impl AsRef<Path>) -> Vec<String> {
 
 /// The crates that crates.txt lists, in its order.
 pub fn crates() -> Vec<String> {
-    let listed = text("crates.txt");
-    let lines = listed.lines().filter(|line| !line.starts_with('#'));
-    lines.filter_map(|line| Some(line.split_once(':')?.0.to_string())).collect()
+    listed().into_iter().map(|(name, _)| name).collect()
+}
+
+/// The crates that crates.txt lists, each with those that it needs, by lines `NAME: NEEDS ..`. Before the colon may stand
+/// words of the crate, as `staticlib`.
+pub fn listed() -> Vec<(String, Vec<String>)> {
+    let words = |text: &str| text.split_whitespace().map(str::to_string).collect::<Vec<_>>();
+    let list = text("crates.txt");
+    let lines = list.lines().filter(|line| !line.starts_with('#'));
+    lines
+        .filter_map(|line| {
+            let (head, needs) = line.split_once(':')?;
+            Some((words(head).into_iter().next()?, words(needs)))
+        })
+        .collect()
 }
 
 /// The packages of the Cargo workspace.

@@ -35,7 +35,7 @@ fn public_functions(name: &str) -> Vec<String> {
 fn declared_function(line: &str) -> Option<String> {
     let line = line.trim_start().strip_prefix("pub ")?;
     let line = line.strip_prefix("extern \"C\" ").unwrap_or(line).strip_prefix("fn ")?;
-    Some(line.split_once('(')?.0.to_string())
+    Some(line.split(['(', '<']).next()?.to_string())
 }
 
 /// The names that the promises give in the section whose heading has the crate's name.
@@ -76,7 +76,8 @@ fn requiring(source: &str) -> Vec<String> {
             public = None;
         }
         public = declared_function(line).or(public);
-        if code.starts_with("requires ") {
+        // A clause on memory and loans has a star.
+        if code.starts_with("requires ") || code.starts_with("requires* ") {
             requiring.extend(public.take());
         }
     }

@@ -1,6 +1,6 @@
 //! The two ways to settle are two in the code of crates/: both have one contract, which does not tell them apart.
 
-use documents::text;
+use documents::{listed, text};
 
 /// What calls what, from the C calls down to `keys` and to `rounds`: a file, a function, and what its body has.
 const CALLS: [(&str, &str, &str); 8] = [
@@ -51,16 +51,16 @@ fn each_way_to_settle_runs_its_own_code() {
     }
 }
 
-/// Every crate that one is made of, by the lines `NAME: NEEDS ..` of crates.txt.
+/// Every crate that one is made of.
 fn needs(name: &str) -> Vec<String> {
-    let listed = text("crates.txt");
+    let listed = listed();
     let mut needed = vec![name.to_string()];
     let mut next = 0;
     while next < needed.len() {
-        let own = listed.lines().find_map(|line| line.strip_prefix(&format!("{}:", needed[next])));
-        for other in own.unwrap_or_default().split_whitespace() {
-            if !needed.iter().any(|known| known == other) {
-                needed.push(other.to_string());
+        let own = listed.iter().find(|(known, _)| *known == needed[next]);
+        for other in own.map(|(_, needs)| needs.as_slice()).unwrap_or_default() {
+            if !needed.contains(other) {
+                needed.push(other.clone());
             }
         }
         next += 1;

@@ -1,6 +1,6 @@
 /* A button on a copper bulb, pressed twice; and a refusal for want of the bulb's byte of the profile.
  *
- * From the repository's root, after `rt staticlib redstone`:
+ * From the repository's root, after `bin/staticlib redstone`:
  *
  *     cc -I rust/redstone/include rust/redstone/examples/bulb.c target/staticlib/libredstone.a -o bulb && ./bulb
  */

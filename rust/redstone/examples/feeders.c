@@ -1,7 +1,7 @@
 /* A line of dust that climbs a block: what feeds each dust, and by which rule; the same with a slab in the place of the
  * block; and a refusal of a row at another position.
  *
- * From the repository's root, after `rt staticlib redstone`:
+ * From the repository's root, after `bin/staticlib redstone`:
  *
  *     cc -I rust/redstone/include rust/redstone/examples/feeders.c target/staticlib/libredstone.a -o feeders && ./feeders
  */

@@ -1,6 +1,6 @@
 /* A room that misses a part of its floor: what drops in which pass, and what is kept; and a refusal of too few bytes.
  *
- * From the repository's root, after `rt staticlib redstone`:
+ * From the repository's root, after `bin/staticlib redstone`:
  *
  *     cc -I rust/redstone/include rust/redstone/examples/floor.c target/staticlib/libredstone.a -o floor && ./floor
  */

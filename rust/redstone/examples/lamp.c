@@ -1,6 +1,6 @@
 /* A lever on a block, a repeater that reads the block, and a lamp behind it: fresh, a switch, ticks, and a refusal.
  *
- * From the repository's root, after `rt staticlib redstone`:
+ * From the repository's root, after `bin/staticlib redstone`:
  *
  *     cc -I rust/redstone/include rust/redstone/examples/lamp.c target/staticlib/libredstone.a -o lamp && ./lamp
  */

@@ -1,6 +1,6 @@
 /* A room with a lever and a room with a lamp, drawn apart, in one table; and a refusal where they clash.
  *
- * From the repository's root, after `rt staticlib redstone`:
+ * From the repository's root, after `bin/staticlib redstone`:
  *
  *     cc -I rust/redstone/include rust/redstone/examples/rooms.c target/staticlib/libredstone.a -o rooms && ./rooms
  */

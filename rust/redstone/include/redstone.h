@@ -1,5 +1,5 @@
 /*
- * The proved redstone calls, for C on x86-64 Linux: link libredstone.a, which `rt staticlib redstone` builds.
+ * The proved redstone calls, for C on x86-64 Linux: link libredstone.a, which `bin/staticlib redstone` builds.
  *
  * Buffers. Each is a pointer and then its length in entries, and may have any length and content. Buffers that are only
  * read may be one or overlap, as redstone_merge's two tables; a buffer that is written may overlap no other. A pointer
@@ -119,7 +119,7 @@
 
 /* The number of the refusal that an answer stands for, 0 where it is none; and the refusal's row. An answer below 65536 is
  * the result of a call that was not refused; any other gives back, by these two, the number and the row of the refusal
- * that fell on it. That is proved: `decode-answer`, crates/refusals/proofs/Tells.antt. */
+ * that fell on it. That is proved: `decode_answer`, crates/refusals/proofs/Tells.antt. */
 #define REDSTONE_REFUSAL(answer) ((uint32_t)(answer) >> 16)
 #define REDSTONE_ROW(answer) ((uint32_t)(answer) & 0xffff)
 
@@ -239,7 +239,7 @@ uint32_t redstone_switch(
  * changes no byte and answers the same. A redraw and then redstone_switch leave the same table as that switch and then the
  * redraw, whether a row is at its position or none. With the same state and columns of the same lengths that holds of
  * refused calls, too, the refusal being the same in both orders; with others it holds where neither switch is refused. That
- * is proved: `redraw-twice`, `answers-twice`, `same-table`, `same-refusal` and `same-table-done`,
+ * is proved: `redraw_twice`, `answers_twice`, `same_table`, `same_refusal` and `same_table_done`,
  * crates/either_order/proofs/Calls.antt. */
 uint32_t redstone_redraw(
     const uint8_t *profile, size_t profile_length,

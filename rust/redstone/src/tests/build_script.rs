@@ -5,7 +5,7 @@ use std::path::{Path, PathBuf};
 use std::process::{Command, Output};
 use std::sync::OnceLock;
 
-use super::repository::Repository;
+use super::repository::{Repository, without_times};
 
 /// The build script as a program.
 fn script() -> &'static Path {
@@ -33,8 +33,9 @@ fn command(repository: &Repository) -> Command {
 }
 
 const IN_TARGET: &str = "target/staticlib/libredstone.a";
-const BUILDS: &str =
-    "echo 'rt: world proved (3 s)'; mkdir -p target/staticlib; echo >target/staticlib/libredstone.a";
+const BUILDS: &str = "echo 'rt: chose --jobs 2 for world'; echo 'fn world::find: proved'; \
+     echo 'crate world: modules loaded=0 checked=40'; echo 'logic=proved functions=1'; \
+     mkdir -p out; echo built >out/libredstone_c.a";
 
 fn run(command: &mut Command) -> Output {
     command.output().expect("the script can be run")
@@ -79,10 +80,12 @@ fn a_missing_or_stale_library_is_built_and_the_progress_shown() {
         }
         let output = run(&mut command(&repository));
         assert_eq!(linked(&output), repository.path("target/staticlib"));
-        assert_eq!(repository.called().as_deref(), Some("check world\nstaticlib redstone\n"));
-        let (_, errors) = texts(&output);
-        assert!(errors.contains("it takes four to eight minutes"), "{errors}");
-        assert_eq!(errors.matches("redstone: world proved (3 s), 1 of 2\n").count(), 1, "{errors}");
+        assert_eq!(fs::read_to_string(repository.path(IN_TARGET)).ok().as_deref(), Some("built\n"));
+        assert_eq!(repository.called().as_deref(), Some("redstone_c: lib\n"));
+        let errors = without_times(&texts(&output).1);
+        assert!(errors.contains("From nothing it takes long, with a line for each crate"), "{errors}");
+        assert_eq!(errors.matches("redstone: world proved (N s), 1 of 3\n").count(), 1, "{errors}");
+        assert_eq!(errors.matches("redstone: chose --jobs 2 for world\n").count(), 1, "{errors}");
     }
 }
 
@@ -110,16 +113,24 @@ fn a_library_that_cannot_be_built_is_not_linked() {
 
     repository.rt("echo 'it is not proved'; exit 1");
     let output = run(&mut command(&repository));
-    assert!(sentence(&output).starts_with("`rt check world` failed in "));
+    assert!(sentence(&output).starts_with("`rt lib` failed in "));
     assert!(texts(&output).1.contains("it is not proved"));
 
-    repository.rt("[ $1 = check ] || { echo 'it is not built'; exit 1; }");
+    repository.rt("echo 'it is not built' >&2; exit 1");
     let output = run(&mut command(&repository));
-    assert!(sentence(&output).starts_with("`rt staticlib redstone` failed in "));
+    assert!(sentence(&output).starts_with("`rt lib` failed in "));
     assert!(texts(&output).1.contains("it is not built"));
 
-    repository.rt("rm -rf target");
-    assert!(sentence(&run(&mut command(&repository))).contains("is not there"));
+    repository.rt("rm -rf out ../../target");
+    let text = sentence(&run(&mut command(&repository)));
+    assert!(
+        text.contains("out/libredstone_c.a cannot be put at ") && text.contains("No such file"),
+        "{text}"
+    );
+
+    fs::remove_dir_all(repository.path("crates/redstone_c")).expect("a folder");
+    let text = sentence(&run(&mut command(&repository)));
+    assert!(text.starts_with("`rt lib` could not be run in "), "{text}");
 
     fs::remove_file(repository.path("crates.txt")).expect("a file");
     let text = sentence(&run(&mut command(&repository)));

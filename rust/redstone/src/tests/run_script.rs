@@ -6,7 +6,7 @@ use std::os::unix::fs::symlink;
 use std::path::{Path, PathBuf};
 use std::process::{Command, Output};
 
-use super::repository::Repository;
+use super::repository::{Repository, without_times};
 
 /// A repository with the script, and `rt` if it does something.
 fn repository(name: &str, does: Option<&str>) -> Repository {
@@ -40,25 +40,28 @@ fn make(repository: &Repository, path: &str, words: &[&str]) -> (bool, String, S
 }
 
 /// An `rt` that builds programs which write what they read.
-const BUILDS: &str = "echo 'fn columns::larger: proved'; echo 'rt: columns proved (3 s)'; \
-     echo 'rt: world proved (unchanged since it was last proved)'; mkdir -p target/bin; \
-     for program in settle month; do printf '#!/bin/sh\\ncat\\n' >target/bin/$program; done; chmod +x target/bin/*";
+const BUILDS: &str = "exec 3>&1 >&2; echo 'fn columns::larger: proved'; echo 'crate columns: modules loaded=0 checked=40'; \
+     echo 'logic=proved functions=6'; program=${PWD##*/}; mkdir -p out; printf '#!/bin/sh\\ncat\\n' >out/$program; \
+     chmod +x out/$program; echo \"rt: running out/$program; to give it other input, run that file yourself\"; \
+     out/$program >&3";
 
 #[test]
 fn the_first_run_says_what_it_does_and_shows_how_far_it_is() {
     let repository = repository("run_first", Some(BUILDS));
     let (well, written, said) = make(&repository, &repository.search_path(), &["run"]);
     assert!(well, "{said}");
-    assert_eq!(repository.called().as_deref(), Some("check settle\n"));
+    assert_eq!(repository.called().as_deref(), Some("settle: run\n"));
     assert_eq!(written, "the sample");
     assert_eq!(
-        said,
-        "make run: proving and building 'settle' with 'rt check settle'; the first time it takes four to eight minutes\n\
-         make run: columns proved (3 s)\n"
+        without_times(&said),
+        "make run: proving and building 'settle' with 'rt run' in crates/settle; the first time it takes long, with a line \
+         for each crate\n\
+         make run: columns proved (N s)\n"
     );
     repository.write("other", "another table");
     let (_, written, said) = make(&repository, &repository.search_path(), &["run", "TABLE=other"]);
-    assert_eq!((written.as_str(), said.as_str()), ("another table", "make run: columns proved (3 s)\n"));
+    assert_eq!(written, "another table");
+    assert_eq!(without_times(&said), "make run: columns proved (N s)\n");
 }
 
 #[test]
@@ -76,9 +79,9 @@ fn a_run_without_the_kit_says_what_to_install() {
 
 #[test]
 fn a_run_that_fails_says_why() {
-    let repository = repository("run_failed", Some("echo 'it is not proved'; exit 1"));
+    let repository = repository("run_failed", Some("echo 'it is not proved' >&2; exit 1"));
     let (well, _, said) = make(&repository, &repository.search_path(), &["run"]);
-    assert!(!well && said.contains("it is not proved\nmake run: 'rt check settle' failed"), "{said}");
+    assert!(!well && said.contains("it is not proved\nmake run: 'rt run' failed in crates/settle"), "{said}");
     let (well, _, said) = make(&repository, &repository.search_path(), &["run", "TABLE=nowhere"]);
     assert!(!well && said.starts_with("make run: there is no file nowhere"), "{said}");
 }
@@ -88,9 +91,12 @@ fn a_month_is_built_and_counted_so_too() {
     let repository = repository("month", Some(BUILDS));
     let (well, written, said) = make(&repository, &repository.search_path(), &["month"]);
     assert!(well, "{said}");
-    assert_eq!(repository.called().as_deref(), Some("check month\n"));
+    assert_eq!(repository.called().as_deref(), Some("month: run\n"));
     assert_eq!(written, "the sample stream");
-    assert!(said.starts_with("make month: proving and building 'month' with 'rt check month'"), "{said}");
+    assert!(
+        said.starts_with("make month: proving and building 'month' with 'rt run' in crates/month"),
+        "{said}"
+    );
     repository.write("other", "another stream");
     let (_, written, _) = make(&repository, &repository.search_path(), &["month", "STREAM=other"]);
     assert_eq!(written, "another stream");
