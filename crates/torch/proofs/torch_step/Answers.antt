@@ -2,7 +2,6 @@
 use native.Mathlib.Omega.{arith}
 use lib.ListN.{length-set}
 use Rattle.torch.specs.Step.{torch_row}
-use borrow.Author.Rules.{rules}
 use Rattle.torch.proofs.torch_step.Goals as goal
 
 pub write_word-requires : goal.write_word-requires
