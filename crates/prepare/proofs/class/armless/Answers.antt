@@ -1,6 +1,5 @@
 -- `prepare::class::armless` meets its contract. Assumes nothing.
 use Rattle.prepare.specs.Classes.{armless}
-use borrow.Author.Rules.{rules}
 use Rattle.prepare.proofs.class.armless.Goals as goal
 
 pub returns : goal.returns

@@ -1,9 +1,6 @@
 -- Answers of `prepare::class::fill_armless`.
 use borrow.Author.Rules.{rules}
-use Prim.Native.Nat.{◌-◌}
-use lib.ListN.{length}
-use Rattle.columns.proofs.Columns.{Filled, fills}
-use Rattle.prepare.specs.Classes.{armless}
+use Rattle.columns.proofs.Columns.{fills}
 use Rattle.prepare.proofs.class.fill_armless.Goals as goal
 
 pub loop-i-init : goal.loop-i-init

@@ -1,8 +1,7 @@
 -- `prepare::class::fill_armless` meets its contract. The loop's invariant: the first i rows are the rule's. Assumes nothing.
-use borrow.Author.Rules.{rules}
 use Prim.Native.Nat.{◌-◌}
 use lib.ListN.{length}
-use Rattle.columns.proofs.Columns.{Filled, fills}
+use Rattle.columns.proofs.Columns.{Filled}
 use Rattle.prepare.specs.Classes.{armless}
 use Rattle.prepare.proofs.class.fill_armless.Given as goal
 
