@@ -1,6 +1,5 @@
 -- `prepare::fill_classes` meets its contract. Assumes nothing.
 use mathlib.Core.Path.{◌≡◌, ap₂, sym, ◌∙◌}
-use borrow.Author.Rules.{rules}
 use Prim.Native.Nat.{ℕ, ◌<◌}
 use lib.ListN.{length}
 use Rattle.columns.specs.Column.{Bytes, Column, row}

@@ -1,11 +1,8 @@
 -- `prepare::class::fill_plain` meets its contract. The loop's invariant: the classes of the first k kinds are written. Assumes nothing.
-use borrow.Author.Rules.{rules}
-use mathlib.Core.Path.{ap, ◌∙◌}
 use Prim.Native.Nat.{◌-◌}
-use native.Mathlib.Omega.{arith}
-use Rattle.columns.proofs.Columns.{Filled, filled_none, filled_more, filled_all}
+use Rattle.columns.proofs.Columns.{Filled}
 use Rattle.traits.specs.Traits.{plain}
-use Rattle.prepare.specs.Classes.{kinds, class_with, plain_classes}
+use Rattle.prepare.specs.Classes.{kinds, class_with}
 use Rattle.prepare.proofs.class.fill_plain.Given as goal
 
 abbrev pub invariant-loop-k : goal.invariant-loop-k
