@@ -1,7 +1,6 @@
 -- `connectivity::across` meets its contract: in each arm the number is one of the arm's, or none of them. Assumes nothing.
 use mathlib.Core.Path.{ap₂}
 use mathlib.Core.Logic.{⊎_elim, inl, inr}
-use borrow.Author.Rules.{rules}
 use borrow.Author.Tests.{ne_eqb}
 use Rattle.connectivity.specs.declared.Sides.TheVariants.{Both}
 use Rattle.connectivity.specs.Ports.{across}

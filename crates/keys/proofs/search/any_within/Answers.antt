@@ -12,7 +12,7 @@ loop-i-init c = (search rules, search rules, sym (any_none _ _ _ _))
 
 pub loop-i-preserved : goal.loop-i-preserved
 loop-i-preserved c = let l = c in
-    (omega arith, omega arith, rw (l.loop-i.invariant.2, c.is_Within.ensures) (sym (any_more _ _ _ _ _ l.loop-i.invariant.0)))
+    (omega arith, omega arith, rw (l.loop-i.invariant.2, c.is_within-any.ensures) (sym (any_more _ _ _ _ _ l.loop-i.invariant.0)))
 
 pub returns : goal.returns
 returns c = let start = c in

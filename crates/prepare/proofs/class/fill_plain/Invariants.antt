@@ -9,7 +9,7 @@ use Rattle.prepare.specs.Classes.{kinds, class_with, plain_classes}
 use Rattle.prepare.proofs.class.fill_plain.Given as goal
 
 abbrev pub invariant-loop-k : goal.invariant-loop-k
-invariant-loop-k l = Filled (λ l.k. class_with l.profile l.k (plain l.profile l.k)) kinds l.k l.out
+invariant-loop-k l = Filled (λ k. class_with l.profile k (plain l.profile k)) kinds l.k l.out
 
 abbrev pub decreases-loop-k : goal.decreases-loop-k
 decreases-loop-k l = kinds - l.k

@@ -9,7 +9,7 @@ use Rattle.prepare.specs.Arms.{arms_from, with_arms}
 use Rattle.prepare.proofs.dust_arms.fill_arms.Given as goal
 
 abbrev pub invariant-loop-i : goal.invariant-loop-i
-invariant-loop-i l = Filled (λ l.i. row l.class l.i + arms_from l.table l.near l.class l.i) (length l.class) l.i l.out
+invariant-loop-i l = Filled (λ i. row l.class i + arms_from l.table l.near l.class i) (length l.class) l.i l.out
 
 abbrev pub decreases-loop-i : goal.decreases-loop-i
 decreases-loop-i l = length l.class - l.i

@@ -1,6 +1,5 @@
 -- `wire::transfer::fits` meets its contract: in each arm the number is the arm's, or none of them. Assumes nothing.
 use borrow.Author.Tests.{ne_eqb}
-use borrow.Author.Rules.{rules}
 use Rattle.wire.specs.Transfer.{fits}
 use Rattle.wire.proofs.transfer.fits.Goals as goal
 
