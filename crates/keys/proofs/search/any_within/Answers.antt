@@ -1,9 +1,7 @@
 -- Answers of `keys::search::any_within`.
 use borrow.Author.Rules.{rules}
 use mathlib.Core.Path.{◌≡◌, sym}
-use Prim.Native.Nat.{◌-◌, ◌≤◌}
 use native.Mathlib.Omega.{arith}
-use Rattle.keys.specs.Search.{any_within}
 use Rattle.keys.proofs.Searching.{any_none, any_more}
 use Rattle.keys.proofs.search.any_within.Goals as goal
 

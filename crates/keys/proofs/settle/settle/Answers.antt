@@ -1,7 +1,6 @@
 -- `keys::settle::settle` meets its contract. Assumes nothing.
 use mathlib.Core.Path.{sym}
 use Rattle.columns.proofs.Columns.{length_zeros}
-use borrow.Author.Rules.{rules}
 use Rattle.keys.proofs.settle.settle.Goals as goal
 
 pub slice_bounds-settle_in-end : goal.slice_bounds-settle_in-end

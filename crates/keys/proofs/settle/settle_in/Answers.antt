@@ -1,7 +1,6 @@
 -- `keys::settle::settle_in` meets its contract. Assumes nothing.
 use mathlib.Core.Path.{◌∙◌}
 use Rattle.keys.proofs.Settled.{settles}
-use borrow.Author.Rules.{rules}
 use Rattle.keys.proofs.settle.settle_in.Goals as goal
 
 pub fill_settled-requires : goal.fill_settled-requires
