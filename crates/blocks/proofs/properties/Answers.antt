@@ -1,6 +1,5 @@
 -- `blocks::properties` meets its contract: each value is a bit of the kind's byte. Assumes nothing.
 use native.Mathlib.Nat.{div-one}
-use borrow.Author.Rules.{rules}
 use Rattle.blocks.specs.Profile.{says, properties_of}
 use Rattle.blocks.proofs.properties.Goals as goal
 

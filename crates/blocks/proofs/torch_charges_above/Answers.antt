@@ -1,5 +1,4 @@
 -- `blocks::torch_charges_above` meets its contract. Assumes nothing.
-use borrow.Author.Rules.{rules}
 use Rattle.blocks.specs.Profile.{says}
 use Rattle.blocks.proofs.torch_charges_above.Goals as goal
 

@@ -1,12 +1,8 @@
 -- Answers of `columns::same`.
-use mathlib.Core.Path.{◌≡◌, refl, sym, ◌∙◌}
-use mathlib.Core.Bool.{false}
-use Prim.Native.Nat.{◌≤◌, ◌-◌}
+use mathlib.Core.Path.{refl, sym, ◌∙◌}
 use native.Mathlib.Omega.{arith}
-use lib.Dec.{eqb}
-use lib.ListN.{length, get_or, drop}
+use lib.ListN.{get_or}
 use borrow.Author.Tests.{ne_eqb, eq-eqb}
-use Rattle.columns.specs.Column.{same}
 use Rattle.columns.proofs.Columns.{same_lengths, same_next, same_over}
 use Rattle.columns.proofs.same.Goals as goal
 

@@ -1,13 +1,8 @@
 -- `columns::same` meets its contract. The loop's invariant: the answer is that of the entries from i on. Assumes nothing.
-use mathlib.Core.Path.{◌≡◌, refl, sym, ◌∙◌}
-use mathlib.Core.Bool.{false}
+use mathlib.Core.Path.{◌≡◌}
 use Prim.Native.Nat.{◌≤◌, ◌-◌}
-use native.Mathlib.Omega.{arith}
-use lib.Dec.{eqb}
-use lib.ListN.{length, get_or, drop}
-use borrow.Author.Tests.{ne_eqb, eq-eqb}
+use lib.ListN.{length, drop}
 use Rattle.columns.specs.Column.{same}
-use Rattle.columns.proofs.Columns.{same_lengths, same_next, same_over}
 use Rattle.columns.proofs.same.Given as goal
 
 abbrev pub invariant-loop-i : goal.invariant-loop-i

@@ -1,10 +1,7 @@
 -- Answers of `columns::zeros`.
-use borrow.Author.Rules.{rules}
 use mathlib.Core.Path.{refl}
-use Prim.Native.Nat.{◌-◌}
 use native.Mathlib.Omega.{arith}
-use lib.ListN.{length}
-use Rattle.columns.proofs.Columns.{Filled, filled_none, filled_more, filled_all}
+use Rattle.columns.proofs.Columns.{filled_none, filled_more, filled_all}
 use Rattle.columns.proofs.zeros.Goals as goal
 
 pub loop-i-init : goal.loop-i-init

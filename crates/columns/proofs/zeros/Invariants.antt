@@ -1,10 +1,7 @@
 -- `columns::zeros` meets its contract. The loop's invariant: the entries passed are 0. Assumes nothing.
-use borrow.Author.Rules.{rules}
-use mathlib.Core.Path.{refl}
 use Prim.Native.Nat.{◌-◌}
-use native.Mathlib.Omega.{arith}
 use lib.ListN.{length}
-use Rattle.columns.proofs.Columns.{Filled, filled_none, filled_more, filled_all}
+use Rattle.columns.proofs.Columns.{Filled}
 use Rattle.columns.proofs.zeros.Given as goal
 
 abbrev pub invariant-loop-i : goal.invariant-loop-i

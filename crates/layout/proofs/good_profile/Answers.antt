@@ -1,6 +1,5 @@
 -- `layout::good_profile` meets its contract. Assumes nothing.
 use Rattle.layout.specs.Good.{good_profile}
-use borrow.Author.Rules.{rules}
 use Rattle.layout.proofs.good_profile.Goals as goal
 
 pub returns : goal.returns

@@ -1,6 +1,5 @@
 -- `layout::good_row` meets its contract. Assumes nothing.
 use Rattle.layout.specs.Good.{good_row}
-use borrow.Author.Rules.{rules}
 use Rattle.layout.proofs.good_row.Goals as goal
 
 pub returns : goal.returns

@@ -3,7 +3,6 @@ use Prim.Native.Nat.{ℕ, ◌<◌}
 use native.Mathlib.Omega.{arith}
 use lib.ListN.{get_or}
 use Rattle.layout.proofs.Offset.{one_test}
-use borrow.Author.Rules.{rules}
 use Rattle.layout.proofs.good_support.Goals as goal
 
 pub returns : goal.returns

@@ -1,13 +1,10 @@
 -- Answers of `layout::low_bytes`.
-use borrow.Author.Rules.{rules}
 use mathlib.Core.Path.{◌≡◌, refl, sym}
 use mathlib.Core.Bool.{true, false}
-use Prim.Native.Nat.{◌-◌, ◌≤◌}
 use native.Mathlib.Omega.{arith}
 use lib.ListN.{get_or}
 use lib.Dec.{leb}
 use borrow.Author.Tests.{lt-leb, le-leb}
-use Rattle.columns.specs.First.{all_below}
 use Rattle.columns.proofs.First.{all_more, all_fails}
 use Rattle.layout.specs.Good.{most_of}
 use Rattle.layout.proofs.low_bytes.Goals as goal

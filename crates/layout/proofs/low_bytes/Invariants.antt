@@ -1,14 +1,10 @@
 -- `layout::low_bytes` meets its contract. The loop's invariant: the bytes passed are low. Assumes nothing.
-use borrow.Author.Rules.{rules}
-use mathlib.Core.Path.{◌≡◌, refl, sym}
-use mathlib.Core.Bool.{true, false}
+use mathlib.Core.Path.{◌≡◌}
+use mathlib.Core.Bool.{true}
 use Prim.Native.Nat.{◌-◌, ◌≤◌}
-use native.Mathlib.Omega.{arith}
 use lib.ListN.{get_or}
 use lib.Dec.{leb}
-use borrow.Author.Tests.{lt-leb, le-leb}
 use Rattle.columns.specs.First.{all_below}
-use Rattle.columns.proofs.First.{all_more, all_fails}
 use Rattle.layout.specs.Good.{most_of}
 use Rattle.layout.proofs.low_bytes.Given as goal
 

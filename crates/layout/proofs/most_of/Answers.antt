@@ -1,5 +1,4 @@
 -- `layout::most_of` meets its contract. Assumes nothing.
-use borrow.Author.Rules.{rules}
 use borrow.Author.Tests.{eq-eqb, ne_eqb}
 use Rattle.blocks.specs.Kind.{RedstoneTorch}
 use Rattle.layout.proofs.most_of.Goals as goal

@@ -6,7 +6,6 @@ use lib.Seq.{take_all}
 use lib.ListN.{length, take, drop, length-drop}
 use borrow.Author.Tests.{lt-leb, le-leb}
 use lib.ListN.{length}
-use borrow.Author.Rules.{rules}
 use Rattle.names.proofs.ends_with.Goals as goal
 
 pub returns-then-s-end : goal.returns-then-s-end

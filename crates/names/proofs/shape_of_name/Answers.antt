@@ -1,7 +1,6 @@
 -- `names::shape_of_name` meets its contract: the tests in their order. Assumes nothing.
 use mathlib.Core.Path.{sym, ◌∙◌}
 use Rattle.names.specs.Names.{shape_of_name}
-use borrow.Author.Rules.{rules}
 use Rattle.names.proofs.shape_of_name.Goals as goal
 
 pub returns-then-ends_with : goal.returns-then-ends_with

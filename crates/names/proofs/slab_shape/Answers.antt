@@ -1,6 +1,5 @@
 -- `names::slab_shape` meets its contract. Assumes nothing.
 use mathlib.Core.Path.{sym, ◌∙◌}
-use borrow.Author.Rules.{rules}
 use Rattle.names.proofs.slab_shape.Goals as goal
 
 pub returns-then-same : goal.returns-then-same

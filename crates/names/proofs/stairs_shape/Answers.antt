@@ -1,6 +1,5 @@
 -- `names::stairs_shape` meets its contract. Assumes nothing.
 use mathlib.Core.Path.{sym, ◌∙◌}
-use borrow.Author.Rules.{rules}
 use Rattle.names.proofs.stairs_shape.Goals as goal
 
 pub returns-then-same : goal.returns-then-same

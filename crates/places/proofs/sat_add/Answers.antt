@@ -1,9 +1,7 @@
 -- `places::sat_add` meets its contract. The sum at 64 bits is the sum of the two numbers (`wide`), and each test is that of `clamp32`.
 -- Assumes nothing.
-use mathlib.Core.Path.{◌≡◌, refl, sym, ap, ◌∙◌}
-use mathlib.Core.Bool.{true, false}
-use lib.IntN.{ℤ, pos, negsuc, ◌+ℤ◌}
-use lib.Signed.{lt_z}
+use mathlib.Core.Path.{◌≡◌}
+use lib.IntN.{ℤ, ◌+ℤ◌}
 use mir.Syntax.{w32, w64}
 use mir.Val.{SFits, to_z, of_z}
 use Rattle.places.specs.Signed.{sat_add, clamp32}

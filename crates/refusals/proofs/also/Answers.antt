@@ -1,5 +1,4 @@
 -- `refusals::also` meets its contract. Assumes nothing.
-use borrow.Author.Rules.{rules}
 use Rattle.refusals.proofs.also.Goals as goal
 
 pub returns : goal.returns

@@ -1,5 +1,4 @@
 -- `refusals::answer` meets its contract, by the cases of what was checked. Assumes nothing.
-use borrow.Author.Rules.{rules}
 use Rattle.refusals.proofs.answer.Goals as goal
 
 pub returns-in-Refused : goal.returns-in-Refused

@@ -1,7 +1,6 @@
 -- `refusals::check_input` meets its contract. Assumes nothing.
 use mathlib.Core.Path.{sym, ◌∙◌}
 use Rattle.refusals.specs.Check.{check_input}
-use borrow.Author.Rules.{rules}
 use Rattle.refusals.proofs.check_input.Goals as goal
 
 pub returns-then-good_profile : goal.returns-then-good_profile

@@ -1,7 +1,6 @@
 -- `refusals::check_overdriven` meets its contract: a row at fault is one of at most 1,024, so its number fits. Assumes nothing.
 use native.Mathlib.Omega.{arith}
 use Rattle.refusals.proofs.Passed.{row_fits}
-use borrow.Author.Rules.{rules}
 use Rattle.refusals.proofs.check_overdriven.Goals as goal
 
 pub refuse_at-requires : goal.refuse_at-requires

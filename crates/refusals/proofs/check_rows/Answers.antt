@@ -2,7 +2,6 @@
 use native.Mathlib.Omega.{arith}
 use Rattle.refusals.specs.Check.{check_rows}
 use Rattle.refusals.proofs.Passed.{row_fits, at_else}
-use borrow.Author.Rules.{rules}
 use Rattle.refusals.proofs.check_rows.Goals as goal
 
 pub refuse_at-bad-requires : goal.refuse_at-bad-requires

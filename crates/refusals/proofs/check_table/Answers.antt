@@ -1,8 +1,6 @@
 -- `refusals::check_table` meets its contract. Assumes nothing.
-use mathlib.Core.Path.{sym, ◌∙◌}
 use borrow.Author.Tests.{eq-eqb, ne_eqb, le-leb, lt-leb}
 use Rattle.refusals.specs.Check.{check_table}
-use borrow.Author.Rules.{rules}
 use Rattle.refusals.proofs.check_table.Goals as goal
 
 pub returns-then-table-ne0 : goal.returns-then-table-ne0

@@ -1,7 +1,5 @@
 -- `refusals::refuse_at` meets its contract, by what was found. Assumes nothing.
-use Prim.Native.Nat.{◌+◌, ◌<◌}
 use native.Mathlib.Omega.{arith}
-use borrow.Author.Rules.{rules}
 use Rattle.refusals.proofs.refuse_at.Goals as goal
 
 pub overflow_add-result : goal.overflow_add-result

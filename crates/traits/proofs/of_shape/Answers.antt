@@ -3,7 +3,6 @@ use mathlib.Core.Logic.{⊎_elim, inl, inr}
 use borrow.Author.Tests.{ne_eqb}
 use mathlib.Core.Logic.{⊎_elim}
 use Rattle.traits.specs.Traits.{of_shape}
-use borrow.Author.Rules.{rules}
 use Rattle.traits.proofs.of_shape.Goals as goal
 
 pub returns-in-2 : goal.returns-in-2

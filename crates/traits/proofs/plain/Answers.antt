@@ -1,7 +1,6 @@
 -- `traits::plain` meets its contract. Assumes nothing.
 use Rattle.blocks.specs.Profile.{properties_of}
 use Rattle.traits.specs.Traits.{plain}
-use borrow.Author.Rules.{rules}
 use Rattle.traits.proofs.plain.Goals as goal
 
 pub returns : goal.returns

@@ -2,7 +2,6 @@
 use mathlib.Core.Path.{sym, ◌∙◌}
 use borrow.Author.Tests.{eq-eqb, ne_eqb}
 use Rattle.traits.specs.Traits.{traits}
-use borrow.Author.Rules.{rules}
 use Rattle.traits.proofs.redstone_traits.Goals as goal
 
 pub returns-then-shape-eq-PLAIN : goal.returns-then-shape-eq-PLAIN

@@ -1,7 +1,6 @@
 -- `traits::traits_at` meets its contract, by what the look-up finds. Assumes nothing.
 use mathlib.Core.Path.{sym, ◌∙◌}
 use Rattle.traits.specs.Traits.{traits_at}
-use borrow.Author.Rules.{rules}
 use Rattle.traits.proofs.traits_at.Goals as goal
 
 pub returns-in_default : goal.returns-in_default

@@ -2,10 +2,9 @@
 use mathlib.Core.Path.{◌≡◌, ap}
 use mathlib.Core.Logic.{by_cases}
 use mathlib.Core.Bool.{false}
-use Prim.Native.Nat.{ℕ, ◌≤◌}
+use Prim.Native.Nat.{ℕ}
 use native.Mathlib.Decide.{dec_le}
 use native.Mathlib.Omega.{arith}
-use borrow.Author.Rules.{rules}
 use borrow.Author.Tests.{lt-leb, le-leb}
 use Rattle.places.specs.declared.Place.TheVariants.{There}
 use Rattle.places.specs.Places.{North, is_horizontal, step, horizontal_offset}

@@ -1,6 +1,5 @@
 -- `refusals::row::is_bad` meets its contract. Assumes nothing.
 use native.Mathlib.Omega.{arith}
-use borrow.Author.Rules.{rules}
 use Rattle.refusals.proofs.row.is_bad.Goals as goal
 
 pub overflow_cast-result : goal.overflow_cast-result

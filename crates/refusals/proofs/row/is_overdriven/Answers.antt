@@ -1,6 +1,5 @@
 -- `refusals::row::is_overdriven` meets its contract. Assumes nothing.
 use Rattle.refusals.proofs.Lent.{given_above}
-use borrow.Author.Rules.{rules}
 use Rattle.refusals.proofs.row.is_overdriven.Goals as goal
 
 pub returns : goal.returns

@@ -1,13 +1,8 @@
 -- Answers of `refusals::scan::first_bad`.
-use borrow.Author.Rules.{rules}
-use mathlib.Core.Path.{◌≡◌, sym, ◌∙◌}
-use Prim.Native.Nat.{◌*◌, ◌-◌, ◌≤◌}
+use mathlib.Core.Path.{sym, ◌∙◌}
 use native.Mathlib.Nat.{sub-zero}
 use native.Mathlib.Omega.{arith}
-use lib.ListN.{length}
-use Rattle.columns.specs.First.{first_from}
 use Rattle.columns.proofs.First.{scan_hit, scan_miss, scan_over}
-use Rattle.refusals.specs.Check.{is_bad}
 use Rattle.refusals.proofs.Lent.{lent_bad}
 use Rattle.refusals.proofs.scan.first_bad.Goals as goal
 

@@ -1,14 +1,9 @@
 -- `refusals::scan::first_misplaced` meets its contract. The loop's invariant: the answer is that of the search from row i on. Assumes nothing.
-use borrow.Author.Rules.{rules}
-use mathlib.Core.Path.{◌≡◌, sym, ◌∙◌}
+use mathlib.Core.Path.{◌≡◌}
 use Prim.Native.Nat.{◌*◌, ◌-◌, ◌≤◌}
-use native.Mathlib.Nat.{sub-zero}
-use native.Mathlib.Omega.{arith}
 use lib.ListN.{length}
 use Rattle.columns.specs.First.{first_from}
-use Rattle.columns.proofs.First.{scan_hit, scan_miss, scan_over}
 use Rattle.refusals.specs.Check.{is_misplaced}
-use Rattle.refusals.proofs.Lent.{lent-misplaced}
 use Rattle.refusals.proofs.scan.first_misplaced.Given as goal
 
 abbrev pub invariant-loop-i : goal.invariant-loop-i

@@ -1,16 +1,10 @@
 -- `refusals::scan::first_overdriven_device` meets its contract. The loop's invariant: the answer is that of the search from row i on. Assumes nothing.
-use borrow.Author.Rules.{rules}
-use mathlib.Core.Path.{◌≡◌, sym, ◌∙◌}
-use mathlib.Core.Bool.{Bool, true, false}
+use mathlib.Core.Path.{◌≡◌}
+use mathlib.Core.Bool.{Bool}
 use Prim.Native.Nat.{ℕ, ◌*◌, ◌-◌, ◌≤◌}
-use native.Mathlib.Nat.{sub-zero, mul-le-mul_right}
-use native.Mathlib.Omega.{arith}
 use lib.ListN.{length, get_or}
-use borrow.Author.Tests.{le-ltb, lt-ltb}
 use Rattle.columns.specs.Column.{Bytes}
 use Rattle.columns.specs.First.{first_from}
-use Rattle.columns.specs.Signal.{max_signal}
-use Rattle.columns.proofs.First.{scan_hit, scan_miss, scan_over}
 use Rattle.refusals.specs.Check.{is_overdriven_device}
 use Rattle.refusals.proofs.scan.first_overdriven_device.Given as goal
 

@@ -1,5 +1,4 @@
 -- `world::find::find` meets its contract. Assumes nothing.
-use borrow.Author.Rules.{rules}
 use Rattle.world.specs.Find.{find}
 use Rattle.world.proofs.find.find.Goals as goal
 

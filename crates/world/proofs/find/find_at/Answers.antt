@@ -1,6 +1,4 @@
 -- `world::find::find-at` meets its contract, by the place's cases. Assumes nothing.
-use mathlib.Core.Path.{◌≡◌, sym, ◌∙◌}
-use borrow.Author.Rules.{rules}
 use Rattle.world.proofs.find.find_at.Goals as goal
 
 pub returns-in-There : goal.returns-in-There

@@ -1,13 +1,9 @@
 -- Answers of `world::find::first_at_or_past`.
-use borrow.Author.Rules.{rules}
-use mathlib.Core.Path.{◌≡◌, sym, ◌∙◌}
-use Prim.Native.Nat.{◌≤◌, ◌-◌}
+use mathlib.Core.Path.{sym, ◌∙◌}
 use native.Mathlib.Nat.{sub-zero}
 use native.Mathlib.Omega.{arith}
-use Rattle.columns.specs.First.{first_from}
 use Rattle.columns.proofs.First.{scan_hit, scan_miss, scan_over}
-use Rattle.world.specs.Rows.{rows}
-use Rattle.world.specs.Find.{is_at_or_past, first_at_or_past}
+use Rattle.world.specs.Find.{first_at_or_past}
 use Rattle.world.proofs.find.first_at_or_past.Goals as goal
 
 pub loop-i-init : goal.loop-i-init

@@ -1,12 +1,7 @@
 -- `world::find::first_at_or_past` meets its contract. The loop's invariant: the answer is that of the search from row i on. Assumes nothing.
-use borrow.Author.Rules.{rules}
-use mathlib.Core.Path.{◌≡◌, sym, ◌∙◌}
+use mathlib.Core.Path.{◌≡◌}
 use Prim.Native.Nat.{◌≤◌, ◌-◌}
-use native.Mathlib.Nat.{sub-zero}
-use native.Mathlib.Omega.{arith}
 use Rattle.columns.specs.First.{first_from}
-use Rattle.columns.proofs.First.{scan_hit, scan_miss, scan_over}
-use Rattle.world.specs.Rows.{rows}
 use Rattle.world.specs.Find.{is_at_or_past, first_at_or_past}
 use Rattle.world.proofs.find.first_at_or_past.Given as goal
 

@@ -1,5 +1,4 @@
 -- `world::find::if_standing` meets its contract, by what the search found. Assumes nothing.
-use borrow.Author.Rules.{rules}
 use Rattle.world.proofs.find.if_standing.Goals as goal
 
 pub returns-then-same : goal.returns-then-same

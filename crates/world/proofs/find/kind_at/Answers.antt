@@ -1,7 +1,6 @@
 -- `world::find::kind_at` meets its contract, by what the look-up finds. Assumes nothing.
 use mathlib.Core.Path.{sym, ◌∙◌}
 use Rattle.world.specs.Find.{kind_at}
-use borrow.Author.Rules.{rules}
 use Rattle.world.proofs.find.kind_at.Goals as goal
 
 pub returns-in_default : goal.returns-in_default

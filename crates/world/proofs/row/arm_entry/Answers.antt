@@ -2,7 +2,6 @@
 use borrow.Author.Tests.{lt-leb, le-leb}
 use Rattle.world.specs.Rows.{arm_entry}
 use Rattle.places.specs.Places.{North, West}
-use borrow.Author.Rules.{rules}
 use Rattle.world.proofs.row.arm_entry.Goals as goal
 
 pub returns-then-facing-lt-NORTH : goal.returns-then-facing-lt-NORTH

@@ -1,9 +1,7 @@
 -- `world::row::byte_of` meets its contract: past the end the definition has 0 too. Assumes nothing.
 use mathlib.Core.Path.{sym}
-use Prim.Native.Nat.{◌+◌, ◌*◌, ◌≤◌}
 use native.Mathlib.Omega.{arith}
-use lib.ListN.{length, get_or-eq_default}
-use borrow.Author.Rules.{rules}
+use lib.ListN.{get_or-eq_default}
 use Rattle.world.proofs.row.byte_of.Goals as goal
 
 pub returns-then-table-row : goal.returns-then-table-row

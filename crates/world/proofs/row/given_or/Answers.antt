@@ -1,7 +1,6 @@
 -- `world::row::given_or` meets its contract. Assumes nothing.
 use borrow.Author.Tests.{eq-eqb, ne_eqb}
 use mathlib.Core.Path.{sym, ◌∙◌}
-use borrow.Author.Rules.{rules}
 use Rattle.world.proofs.row.given_or.Goals as goal
 
 pub returns-then-byte_of-eq1 : goal.returns-then-byte_of-eq1

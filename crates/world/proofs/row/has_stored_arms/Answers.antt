@@ -1,5 +1,4 @@
 -- `world::row::has_stored_arms` meets its contract. Assumes nothing.
-use borrow.Author.Rules.{rules}
 use Rattle.world.proofs.row.has_stored_arms.Goals as goal
 
 pub returns : goal.returns

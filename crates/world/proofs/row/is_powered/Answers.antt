@@ -1,5 +1,4 @@
 -- `world::row::is_powered` meets its contract. Assumes nothing.
-use borrow.Author.Rules.{rules}
 use Rattle.world.proofs.row.is_powered.Goals as goal
 
 pub returns : goal.returns

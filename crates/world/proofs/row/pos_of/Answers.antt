@@ -1,6 +1,5 @@
 -- `world::row::pos_of` meets its contract. Assumes nothing.
 use Rattle.world.specs.Rows.{pos_of}
-use borrow.Author.Rules.{rules}
 use Rattle.world.proofs.row.pos_of.Goals as goal
 
 pub returns : goal.returns

@@ -9,7 +9,6 @@ use mir.Val.{SFits, to_z}
 use mir.ValLaws.{to_z_pos}
 use Rattle.places.specs.Signed.{signed32}
 use Rattle.places.proofs.Signs.{back32, back64, less_than_none}
-use borrow.Author.Rules.{rules}
 use Rattle.world.proofs.row.signed.Goals as goal
 
 -- the upper half of the numbers stands for the negative ones

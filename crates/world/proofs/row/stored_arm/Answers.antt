@@ -1,6 +1,5 @@
 -- `world::row::stored_arm` meets its contract. Assumes nothing.
 use mathlib.Core.Path.{sym, ◌∙◌}
-use borrow.Author.Rules.{rules}
 use Rattle.world.specs.Rows.{stored_arm}
 use Rattle.world.proofs.row.stored_arm.Goals as goal
 

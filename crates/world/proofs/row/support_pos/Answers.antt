@@ -1,13 +1,11 @@
 -- `world::row::support_pos` meets its contract. Assumes nothing.
-use mathlib.Core.Path.{◌≡◌, sym, ap, ◌∙◌}
-use borrow.Author.Rules.{rules, sfits_of}
+use mathlib.Core.Path.{sym, ◌∙◌}
+use borrow.Author.Rules.{sfits_of}
 use borrow.Author.Tests.{eq-eqb, ne_eqb}
 use mir.Syntax.{w32}
 use mir.Val.{SFits}
-use Rattle.places.specs.declared.Place.TheVariants.{There}
 use Rattle.places.proofs.Signs.{back32}
 use Rattle.world.specs.Rows.{support_of}
-use borrow.Author.Rules.{rules}
 use Rattle.world.proofs.row.support_pos.Goals as goal
 
 pub returns-then-byte_of-ne1 : goal.returns-then-byte_of-ne1

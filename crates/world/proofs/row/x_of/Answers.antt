@@ -3,7 +3,7 @@ use mathlib.Core.Path.{◌∙◌}
 use mir.Syntax.{w32}
 use mir.Val.{SFits}
 use Rattle.places.proofs.Signs.{back32}
-use borrow.Author.Rules.{rules, sfits_of}
+use borrow.Author.Rules.{sfits_of}
 use Rattle.world.proofs.row.x_of.Goals as goal
 
 pub returns : goal.returns
