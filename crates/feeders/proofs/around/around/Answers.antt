@@ -18,5 +18,5 @@ returns-in-1 c = let m = c in
 pub returns-in_default : goal.returns-in_default
 unfolding around_in
 returns-in_default c = let m = c in
-    rw (← m.around_height.ensures, ne_eqb _ 0 (λ e. omega arith), ne_eqb _ 1 (λ e. omega arith), ← m.around_place-place.ensures.0, ← c.beside-in_default.ensures)
+    rw (← m.around_height.ensures, ne_eqb m.around_height.result 0 (λ e. omega arith), ne_eqb m.around_height.result 1 (λ e. omega arith), ← m.around_place-place.ensures.0, ← c.beside-in_default.ensures)
     c.beside-in_default-2.ensures
