@@ -1,7 +1,6 @@
 -- `probe::numbers::port_of` meets its contract: in each arm the number is the arm's, or none of them. Assumes nothing.
 use borrow.Author.Tests.{ne_eqb}
 use Rattle.probe.specs.Numbers.{port_of}
-use borrow.Author.Rules.{rules}
 use Rattle.probe.proofs.numbers.port_of.Goals as goal
 
 pub returns-in-0 : goal.returns-in-0
