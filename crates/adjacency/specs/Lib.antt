@@ -1,3 +1,4 @@
 pub mod Adjacency
 pub mod Steps
 pub mod Search
+pub mod Inverse

@@ -1,4 +1,5 @@
 pub mod Decoded
+pub mod Plain
 pub mod Rows
 pub mod Sinks
 pub mod Along

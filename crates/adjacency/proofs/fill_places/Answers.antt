@@ -5,7 +5,7 @@ use Rattle.adjacency.proofs.Placing.{placing_none, placing_fits, placing_room, p
 use Rattle.adjacency.proofs.fill_places.Goals as goal
 
 pub loop-place-init : goal.loop-place-init
-loop-place-init c = let s = c in placing_none (placed_long s.requires.0) s.requires.1
+loop-place-init c = let s = c in placing_none (placed_long s.requires.0) s.requires.2
 
 pub overflow_mul-start : goal.overflow_mul-start
 overflow_mul-start c = omega (arith, placing_fits c.loop-place.invariant (omega arith))
@@ -26,7 +26,9 @@ pub slice_bounds-fill_place-end : goal.slice_bounds-fill_place-end
 slice_bounds-fill_place-end c = omega (arith, placing_fits c.loop-place.invariant (omega arith))
 
 pub fill_place-requires : goal.fill_place-requires
-fill_place-requires c = let l = c in (l.requires.0, placing_room l.loop-place.invariant (omega arith), omega arith)
+fill_place-requires c = let l = c in
+    let s = l in
+    (s.requires.0, s.requires.1, placing_room l.loop-place.invariant (omega arith), omega arith)
 
 pub loop-place-preserved : goal.loop-place-preserved
 loop-place-preserved c = placing_more c.loop-place.invariant (omega arith) c.fill_place.ensures

@@ -7,22 +7,18 @@ use Rattle.refusals.proofs.Accepted.{accepted_input}
 use Rattle.feeders.proofs.Checks.{Given, given, feeders_accepted}
 use Rattle.feeders.proofs.feeders.Goals as goal
 
--- nothing is refused
-passed : (c : goal.In_default) → Given c.args.profile.now c.args.table.now (length c.args.list.now)
-passed c = given _ _ _ (sym c.check_feeders-checked.ensures ∙ c.enum_told-in_default-1.given.1)
-
 pub returns-in-Refused : goal.returns-in-Refused
 returns-in-Refused c = let told = c.in-Refused.is in
     let refused = sym c.check_feeders-checked.ensures ∙ told in
     record { answer = rw refused (rw told at c.answer.ensures); entries = rw refused refl }
 
 pub write_table-requires : goal.write_table-requires
-write_table-requires c = let g = passed c in ((accepted_input _ _ g.input).1, g.list_long)
+write_table-requires c = let g = given _ _ _ (sym c.check_feeders-checked.ensures ∙ c.in_default.is) in ((accepted_input _ _ g.input).1, g.list_long)
 
 pub overflow_cast-result : goal.overflow_cast-result
-overflow_cast-result c = let g = passed c in
+overflow_cast-result c = let g = given _ _ _ (sym c.check_feeders-checked.ensures ∙ c.in_default.is) in
     omega (arith, c.rows.ensures, (accepted_input _ _ g.input).1.few)
 
 pub returns : goal.returns
-returns c = let accepted = feeders_accepted _ _ _ (passed c) in
+returns c = let accepted = feeders_accepted _ _ _ (given _ _ _ (sym c.check_feeders-checked.ensures ∙ c.in_default.is)) in
     record { answer = rw accepted c.rows.ensures; entries = rw accepted c.write_table.ensures }

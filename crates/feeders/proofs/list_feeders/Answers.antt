@@ -1,12 +1,12 @@
 -- Answers of `feeders::list_feeders`.
 use mathlib.Core.Path.{sym, ◌∙◌}
-use mathlib.Core.Logic.{⊎_elim}
 use Prim.Native.Nat.{◌-◌}
 use native.Mathlib.Omega.{arith}
 use borrow.Author.Rules.{rules}
 use Rattle.feeding.specs.Around.{feeder_in}
 use Rattle.feeders.proofs.Fed.{Fed, fed_none, fed_room, fed_pass, fed_more, fed_all}
 use Rattle.feeders.proofs.list_feeders.Goals as goal
+use Rattle.feeders.proofs.list_feeders.Goals.{then-feeder, else-feeder}
 
 pub loop-k-init : goal.loop-k-init
 loop-k-init c = fed_none c.requires.entries_len
@@ -23,10 +23,10 @@ overflow_add-count c = omega (arith, fed_room c.loop-k.invariant (omega arith))
 pub loop-k-preserved : goal.loop-k-preserved
 loop-k-preserved c = let h = c.loop-k.invariant in
     let slot = c.feeder_at-feeder.ensures in
-    ⊎_elim
-    (λ w. rw (w.1, w.2) (fed_more h (omega arith) _ slot w.0.taken))
-    (λ w. rw (w.1, w.2) (fed_pass h (omega arith) (sym slot ∙ w.0.left)))
-    c.if-feeder.branch
+    elim c.if-feeder.branch
+    [ then-feeder w ↦ rw (w.entries-is, w.count-is) (fed_more h (omega arith) _ slot w.if-feeder.true)
+    | else-feeder w ↦ rw (w.entries-is, w.count-is) (fed_pass h (omega arith) (sym slot ∙ w.if-feeder.false))
+    ]
 
 pub returns : goal.returns
 returns c = fed_all c.loop-k.invariant (omega arith)

@@ -8,18 +8,16 @@ use Rattle.feeding.specs.Around.{rows_among, feeder_in, entries_in}
 use Rattle.feeders.proofs.Fed.{blank, entries_none}
 use Rattle.feeders.proofs.write_entries.Goals as goal
 
-filled : (c : goal.After-fill) → c.fill.new.0 ≡ replicate 12 no_row
-filled c = rw c.requires.entries_len at c.fill.ensures ∙ blank
-
 pub returns-then-is_dust_in : goal.returns-then-is_dust_in
 unfolding entries_in
-returns-then-is_dust_in c = let f = c in
-    let a = f.args in
-    c.list_feeders.ensures ∙ ap (at_front (rows_among (feeder_in a.near.now a.class.now a.row) 12)) (filled f)
+returns-then-is_dust_in c =
+    let a = c.args in
+    let filled = rw c.requires.entries_len at c.fill.ensures ∙ blank in
+    c.list_feeders.ensures ∙ ap (at_front (rows_among (feeder_in a.near.now a.class.now a.row) 12)) filled
 
 pub returns-else-is_dust_in : goal.returns-else-is_dust_in
-returns-else-is_dust_in c = let f = c in
-    let start = f in
-    let a = start.args in
+returns-else-is_dust_in c =
+    let a = c.args in
+    let filled = rw c.requires.entries_len at c.fill.ensures ∙ blank in
     let other = rw c.class_at.ensures at (sym c.is_dust_in.ensures ∙ c.if-is_dust_in.false) in
-    filled f ∙ sym (entries_none a.near.now a.class.now a.row start.requires.shaped other)
+    filled ∙ sym (entries_none a.near.now a.class.now a.row c.requires.shaped other)

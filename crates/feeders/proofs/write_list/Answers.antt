@@ -17,7 +17,7 @@ loop-i-preserved c = let l = c in
     let a = l.args in
     let row = c.write_row in
     let next = written_more l.loop-i.invariant.2 refl (entries_long a.near.now a.class.now l.loop-i.i) in
-    (omega arith, row.auto.1.1.1.0 ∙ l.loop-i.invariant.1, rw row.ensures next)
+    (omega arith, row.auto.list ∙ l.loop-i.invariant.1, rw row.ensures next)
 
 pub returns : goal.returns
 returns c = let l = c in written_all l.loop-i.invariant.2 _ (omega (arith, l.loop-i.invariant.0)) l.requires.list_len

@@ -9,4 +9,4 @@ use Rattle.feeders.proofs.write_row.Goals as goal
 pub returns : goal.returns
 returns c = let a = c.args in
     let size : a.row * 12 + 12 - a.row * 12 ≡ 12 = omega arith in
-    rw size (ap (put_mid (a.row * 12) 12 a.list-1.now) c.write_entries.ensures)
+    rw size (ap (put_mid (a.row * 12) 12 a.list.now) c.write_entries.ensures)

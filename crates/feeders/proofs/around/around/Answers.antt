@@ -1,5 +1,5 @@
 -- `feeders::around::around` meets its contract. Assumes nothing.
-use borrow.Author.Rules.{rules}
+use native.Mathlib.Omega.{arith}
 use borrow.Author.Tests.{ne_eqb}
 use Rattle.feeding.specs.Around.{around_in}
 use Rattle.feeders.proofs.around.around.Goals as goal
@@ -18,7 +18,5 @@ returns-in-1 c = let m = c in
 pub returns-in_default : goal.returns-in_default
 unfolding around_in
 returns-in_default c = let m = c in
-    let low = m.in_default.in_default-own.rest.0.1 in
-    let mid = m.in_default.in_default-own.rest.1 in
-    rw (← m.around_height.ensures, ne_eqb _ 0 low, ne_eqb _ 1 mid, ← m.around_place-place.ensures.0, ← c.beside-in_default.ensures)
+    rw (← m.around_height.ensures, ne_eqb m.around_height.result 0 (λ e. omega arith), ne_eqb m.around_height.result 1 (λ e. omega arith), ← m.around_place-place.ensures.0, ← c.beside-in_default.ensures)
     c.beside-in_default-2.ensures
