@@ -1,10 +1,7 @@
 -- Answers of `answers::all_traits_agree`.
 use mathlib.Core.Path.{◌≡◌, refl, sym}
-use mathlib.Core.Bool.{true}
-use Prim.Native.Nat.{◌-◌, ◌≤◌, ◌<◌}
+use Prim.Native.Nat.{◌<◌}
 use native.Mathlib.Omega.{arith}
-use borrow.Author.Rules.{rules}
-use Rattle.columns.specs.First.{all_below}
 use Rattle.columns.proofs.First.{all_more, all_fails}
 use Rattle.world.specs.Rows.{rows}
 use Rattle.answers.specs.Answers.{trait_agrees}

@@ -1,9 +1,6 @@
 -- Answers of `answers::properties_agree`.
 use mathlib.Core.Path.{◌≡◌, refl, sym, ◌∙◌}
-use mathlib.Core.Bool.{true}
-use Prim.Native.Nat.{◌-◌, ◌≤◌}
 use native.Mathlib.Omega.{arith}
-use Rattle.columns.specs.First.{all_below}
 use Rattle.columns.proofs.First.{all_more, all_fails}
 use Rattle.answers.specs.Answers.{property_agrees, properties_agree}
 use Rattle.answers.proofs.properties_agree.Goals as goal

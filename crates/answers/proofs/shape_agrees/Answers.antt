@@ -1,5 +1,4 @@
 -- `answers::shape_agrees` meets its contract. Assumes nothing.
-use borrow.Author.Rules.{rules}
 use Rattle.answers.specs.Answers.{shape_agrees}
 use Rattle.answers.proofs.shape_agrees.Goals as goal
 

@@ -1,5 +1,4 @@
 -- `probe::probe_check` meets its contract. Assumes nothing.
-use borrow.Author.Rules.{rules}
 use Rattle.probe.proofs.probe_check.Goals as goal
 
 pub returns : goal.returns

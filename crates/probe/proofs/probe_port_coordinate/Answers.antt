@@ -1,6 +1,6 @@
 -- `probe::probe_port_coordinate` meets its contract: a coordinate that is handed on is read back from its bits. Assumes nothing.
 use mathlib.Core.Path.{◌∙◌}
-use borrow.Author.Rules.{rules, sfits_of}
+use borrow.Author.Rules.{sfits_of}
 use mir.Syntax.{w32}
 use mir.Val.{SFits}
 use Rattle.places.proofs.Signs.{back32}

@@ -1,7 +1,6 @@
 -- `probe::probe_properties` meets its contract. Assumes nothing.
 use borrow.Author.Tests.{lt-leb, le-leb}
 use Rattle.probe.specs.Numbers.{kind_properties}
-use borrow.Author.Rules.{rules}
 use Rattle.probe.proofs.probe_properties.Goals as goal
 
 pub returns-then-kind-gt255 : goal.returns-then-kind-gt255

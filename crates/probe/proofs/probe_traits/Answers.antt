@@ -1,5 +1,4 @@
 -- `probe::probe_traits` meets its contract. Assumes nothing.
-use borrow.Author.Rules.{rules}
 use Rattle.probe.proofs.probe_traits.Goals as goal
 
 pub returns : goal.returns

@@ -1,6 +1,5 @@
 -- `probe::probe_transfer` meets its contract: a coordinate that is handed on is read back from its bits. Assumes nothing.
 use Rattle.places.proofs.Signs.{back32}
-use borrow.Author.Rules.{rules}
 use Rattle.probe.proofs.probe_transfer.Goals as goal
 
 pub returns : goal.returns

@@ -1,10 +1,7 @@
 -- Answers of `support_answers::all_entries_agree`.
 use mathlib.Core.Path.{◌≡◌, refl, sym, ◌∙◌}
-use mathlib.Core.Bool.{true}
-use Prim.Native.Nat.{◌-◌, ◌≤◌}
 use native.Mathlib.Omega.{arith}
 use lib.ListN.{length}
-use Rattle.columns.specs.First.{all_below}
 use Rattle.columns.proofs.First.{all_more, all_fails}
 use Rattle.support_answers.specs.Answers.{entry_agrees}
 use Rattle.support_answers.proofs.all_entries_agree.Goals as goal

@@ -1,6 +1,5 @@
 -- `support_answers::listed` meets its contract. Assumes nothing.
 use borrow.Author.Tests.{lt-ltb, le-ltb}
-use borrow.Author.Rules.{rules}
 use Rattle.support_answers.proofs.listed.Goals as goal
 
 pub returns-then-i-list : goal.returns-then-i-list

@@ -3,7 +3,6 @@ use mathlib.Core.Path.{sym}
 use lib.ListN.{replicate}
 use lib.Seq.{length-take-le}
 use borrow.Author.Tests.{lt-leb, le-leb}
-use borrow.Author.Rules.{rules}
 use Rattle.support_answers.specs.Answers.{untouched, supports_agree}
 use Rattle.records.proofs.Blank.{front_blank}
 use Rattle.support_answers.proofs.supports_agree.Goals as goal

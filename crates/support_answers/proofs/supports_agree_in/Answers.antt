@@ -1,5 +1,4 @@
 -- `support_answers::supports_agree_in` meets its contract. Assumes nothing.
-use borrow.Author.Rules.{rules}
 use Rattle.support_answers.specs.Answers.{supports_agree_in}
 use Rattle.support_answers.proofs.supports_agree_in.Goals as goal
 

@@ -1,4 +1,5 @@
 -- `probe::numbers::coordinate` meets its contract. Assumes nothing.
+use native.Mathlib.Omega.{arith}
 use borrow.Author.Rules.{rules}
 use mir.Syntax.{w32}
 use mir.Val.{SFits}
@@ -20,5 +21,4 @@ returns-in-1 c = let f : SFits w32 c.args.q.y = search rules in
 pub returns-in_default : goal.returns-in_default
 unfolding coordinate
 returns-in_default c = let f : SFits w32 c.args.q.z = search rules in
-    let none = c.in_default.in_default-own.rest in
-    rw (ne_eqb c.args.axis 0 none.0.1, ne_eqb c.args.axis 1 none.1) (back32 _ f)
+    rw (ne_eqb c.args.axis 0 (λ e. omega arith), ne_eqb c.args.axis 1 (λ e. omega arith)) (back32 _ f)

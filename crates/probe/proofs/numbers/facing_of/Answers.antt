@@ -1,6 +1,5 @@
 -- `probe::numbers::facing_of` meets its contract. Assumes nothing.
 use borrow.Author.Tests.{lt-leb, le-leb}
-use borrow.Author.Rules.{rules}
 use Rattle.probe.proofs.numbers.facing_of.Goals as goal
 
 pub returns-then-number-gt6 : goal.returns-then-number-gt6

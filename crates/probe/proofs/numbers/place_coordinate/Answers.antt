@@ -1,6 +1,6 @@
 -- `probe::numbers::place_coordinate` meets its contract, by the place's cases. Assumes nothing.
 use mathlib.Core.Path.{◌∙◌}
-use borrow.Author.Rules.{rules, sfits_of}
+use borrow.Author.Rules.{sfits_of}
 use mir.Syntax.{w32}
 use mir.Val.{SFits}
 use Rattle.places.proofs.Signs.{back32}

@@ -1,7 +1,7 @@
 -- `probe::numbers::port_of` meets its contract: in each arm the number is the arm's, or none of them. Assumes nothing.
+use native.Mathlib.Omega.{arith}
 use borrow.Author.Tests.{ne_eqb}
 use Rattle.probe.specs.Numbers.{port_of}
-use borrow.Author.Rules.{rules}
 use Rattle.probe.proofs.numbers.port_of.Goals as goal
 
 pub returns-in-0 : goal.returns-in-0
@@ -26,6 +26,5 @@ returns-in-4 c = rw (c.in-4.is, ← c.device_side_positions.ensures) c.side_of.e
 
 pub returns-in_default : goal.returns-in_default
 unfolding port_of
-returns-in_default c = let none = c.in_default.in_default-own.rest in
-    let w = c.args.which in
-    rw (ne_eqb w 0 none.0.0.0.0.1, ne_eqb w 1 none.0.0.0.1, ne_eqb w 2 none.0.0.1, ne_eqb w 3 none.0.1, ne_eqb w 4 none.1, ← c.device_side_positions-in_default.ensures) c.side_of-in_default.ensures
+returns-in_default c = let w = c.args.which in
+    rw (ne_eqb w 0 (λ e. omega arith), ne_eqb w 1 (λ e. omega arith), ne_eqb w 2 (λ e. omega arith), ne_eqb w 3 (λ e. omega arith), ne_eqb w 4 (λ e. omega arith), ← c.device_side_positions-in_default.ensures) c.side_of-in_default.ensures

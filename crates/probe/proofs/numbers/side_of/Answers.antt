@@ -1,5 +1,4 @@
 -- `probe::numbers::side_of` meets its contract, by the sides' cases. Assumes nothing.
-use borrow.Author.Rules.{rules}
 use Rattle.probe.proofs.numbers.side_of.Goals as goal
 
 pub returns-then-first : goal.returns-then-first
