@@ -1,7 +1,6 @@
 -- `devices::device_step` meets its contract. Assumes nothing.
 use borrow.Author.Tests.{eq-eqb, ne_eqb}
 use Rattle.devices.specs.Step.{device_row}
-use borrow.Author.Rules.{rules}
 use Rattle.devices.proofs.device_step.Goals as goal
 
 pub returns-then-kind-eq-REPEATER : goal.returns-then-kind-eq-REPEATER

@@ -1,6 +1,5 @@
 -- `devices::light_step` meets its contract. Assumes nothing.
 use Rattle.devices.specs.Step.{light_row}
-use borrow.Author.Rules.{rules}
 use Rattle.devices.proofs.light_step.Goals as goal
 
 pub returns : goal.returns

@@ -1,6 +1,5 @@
 -- `updates::check::check_fresh` meets its contract. Assumes nothing.
 use Rattle.updates.specs.Calls.{check_fresh}
-use borrow.Author.Rules.{rules}
 use Rattle.updates.proofs.check.check_fresh.Goals as goal
 
 pub returns : goal.returns

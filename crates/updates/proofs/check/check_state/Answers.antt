@@ -12,7 +12,6 @@ use Rattle.columns.proofs.Parts.{part_at}
 use Rattle.refusals.specs.Check.{is_overdriven_device}
 use Rattle.refusals.proofs.Passed.{row_fits, at_else}
 use Rattle.updates.specs.State.{device_in, check_state}
-use borrow.Author.Rules.{rules}
 use Rattle.updates.proofs.check.check_state.Goals as goal
 
 -- the first of sixteen bytes a row

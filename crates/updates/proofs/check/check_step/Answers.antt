@@ -2,7 +2,6 @@
 use mathlib.Core.Path.{sym, ◌∙◌}
 use Rattle.refusals.proofs.Accepted.{accepted_input}
 use Rattle.updates.specs.Calls.{check_step}
-use borrow.Author.Rules.{rules}
 use Rattle.updates.proofs.check.check_step.Goals as goal
 
 pub returns-in-Refused : goal.returns-in-Refused

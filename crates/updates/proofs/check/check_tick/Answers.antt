@@ -7,7 +7,6 @@ use native.Mathlib.Omega.{arith}
 use lib.Dec.{leb}
 use borrow.Author.Tests.{le-leb, lt-leb}
 use Rattle.updates.specs.Calls.{check_tick}
-use borrow.Author.Rules.{rules}
 use Rattle.updates.proofs.check.check_tick.Goals as goal
 
 -- the test that does not wrap is the test of the sum

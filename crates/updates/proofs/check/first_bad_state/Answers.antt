@@ -1,15 +1,11 @@
 -- Answers of `updates::check::first_bad_state`.
 use mathlib.Core.Path.{◌≡◌, sym, ap, ◌∙◌}
 use mathlib.Core.Bool.{true, false, not}
-use Prim.Native.Nat.{◌*◌, ◌-◌, ◌≤◌}
 use native.Mathlib.Nat.{sub-zero}
 use native.Mathlib.Omega.{arith}
-use lib.ListN.{length}
-use Rattle.columns.specs.First.{first_from}
 use Rattle.columns.proofs.First.{scan_hit, scan_miss, scan_over}
 use Rattle.updates.specs.State.{is_bad_state}
 use Rattle.updates.proofs.Turns.{lent_part}
-use borrow.Author.Rules.{rules}
 use Rattle.updates.proofs.check.first_bad_state.Goals as goal
 
 pub loop-i-init : goal.loop-i-init

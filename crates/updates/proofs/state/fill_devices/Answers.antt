@@ -1,11 +1,8 @@
 -- Answers of `updates::state::fill_devices`.
 use borrow.Author.Rules.{rules}
-use Prim.Native.Nat.{◌-◌}
 use native.Mathlib.Omega.{arith}
-use lib.ListN.{length}
-use Rattle.columns.proofs.Columns.{Filled, filled_more, fills}
-use Rattle.states.specs.Row.{device_of}
-use Rattle.updates.specs.State.{sixteen, devices_of}
+use Rattle.columns.proofs.Columns.{filled_more, fills}
+use Rattle.updates.specs.State.{devices_of}
 use Rattle.updates.proofs.Turns.{device_at}
 use Rattle.updates.proofs.state.fill_devices.Goals as goal
 

@@ -1,12 +1,9 @@
 -- `updates::state::fill_devices` meets its contract. The loop's invariant: the bytes of the rows passed are there. Assumes nothing.
-use borrow.Author.Rules.{rules}
 use Prim.Native.Nat.{◌-◌}
-use native.Mathlib.Omega.{arith}
 use lib.ListN.{length}
-use Rattle.columns.proofs.Columns.{Filled, filled_more, fills}
+use Rattle.columns.proofs.Columns.{Filled}
 use Rattle.states.specs.Row.{device_of}
-use Rattle.updates.specs.State.{sixteen, devices_of}
-use Rattle.updates.proofs.Turns.{device_at}
+use Rattle.updates.specs.State.{sixteen}
 use Rattle.updates.proofs.state.fill_devices.Given as goal
 
 abbrev pub invariant-loop-i : goal.invariant-loop-i

@@ -1,9 +1,7 @@
 -- Answers of `updates::state::fill_fresh`.
 use borrow.Author.Rules.{rules}
-use Prim.Native.Nat.{◌-◌}
 use native.Mathlib.Omega.{arith}
-use Rattle.fresh.specs.Fresh.{fresh_row}
-use Rattle.updates.proofs.Turns.{Turns, turns_all, turning}
+use Rattle.updates.proofs.Turns.{turns_all, turning}
 use Rattle.updates.proofs.state.fill_fresh.Goals as goal
 
 pub loop-i-init : goal.loop-i-init

@@ -1,9 +1,7 @@
 -- `updates::state::fill_fresh` meets its contract. The loop's invariant: the rows passed are fresh. Assumes nothing.
-use borrow.Author.Rules.{rules}
 use Prim.Native.Nat.{◌-◌}
-use native.Mathlib.Omega.{arith}
 use Rattle.fresh.specs.Fresh.{fresh_row}
-use Rattle.updates.proofs.Turns.{Turns, turns_all, turning}
+use Rattle.updates.proofs.Turns.{Turns}
 use Rattle.updates.proofs.state.fill_fresh.Given as goal
 
 abbrev pub invariant-loop-i : goal.invariant-loop-i

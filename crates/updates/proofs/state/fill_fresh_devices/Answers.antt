@@ -1,9 +1,6 @@
 -- Answers of `updates::state::fill_fresh_devices`.
 use borrow.Author.Rules.{rules}
-use Prim.Native.Nat.{◌-◌}
-use lib.ListN.{length}
-use Rattle.columns.proofs.Columns.{Filled, fills}
-use Rattle.fresh.specs.Fresh.{fresh_device}
+use Rattle.columns.proofs.Columns.{fills}
 use Rattle.updates.specs.State.{fresh_devices}
 use Rattle.updates.proofs.state.fill_fresh_devices.Goals as goal
 

@@ -1,10 +1,8 @@
 -- `updates::state::fill_fresh_devices` meets its contract. The loop's invariant: the bytes of the rows passed are there. Assumes nothing.
-use borrow.Author.Rules.{rules}
 use Prim.Native.Nat.{◌-◌}
 use lib.ListN.{length}
-use Rattle.columns.proofs.Columns.{Filled, fills}
+use Rattle.columns.proofs.Columns.{Filled}
 use Rattle.fresh.specs.Fresh.{fresh_device}
-use Rattle.updates.specs.State.{fresh_devices}
 use Rattle.updates.proofs.state.fill_fresh_devices.Given as goal
 
 abbrev pub invariant-loop-i : goal.invariant-loop-i

@@ -1,11 +1,8 @@
 -- Answers of `updates::state::set_devices`.
 use borrow.Author.Rules.{rules}
-use Prim.Native.Nat.{◌-◌}
 use native.Mathlib.Omega.{arith}
-use Rattle.levels.specs.Numbers.{numbers}
-use Rattle.devices.specs.Step.{device_row}
 use Rattle.updates.specs.Tick.{with_devices}
-use Rattle.updates.proofs.Turns.{Turns, turns_all, turning}
+use Rattle.updates.proofs.Turns.{turns_all, turning}
 use Rattle.updates.proofs.state.set_devices.Goals as goal
 
 pub loop-i-init : goal.loop-i-init

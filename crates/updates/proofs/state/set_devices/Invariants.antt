@@ -1,11 +1,8 @@
 -- `updates::state::set_devices` meets its contract. The loop's invariant: the devices of the rows passed are set. Assumes nothing.
-use borrow.Author.Rules.{rules}
 use Prim.Native.Nat.{◌-◌}
-use native.Mathlib.Omega.{arith}
 use Rattle.levels.specs.Numbers.{numbers}
 use Rattle.devices.specs.Step.{device_row}
-use Rattle.updates.specs.Tick.{with_devices}
-use Rattle.updates.proofs.Turns.{Turns, turns_all, turning}
+use Rattle.updates.proofs.Turns.{Turns}
 use Rattle.updates.proofs.state.set_devices.Given as goal
 
 abbrev pub invariant-loop-i : goal.invariant-loop-i

@@ -1,10 +1,8 @@
 -- Answers of `updates::state::set_lights`.
 use borrow.Author.Rules.{rules}
-use Prim.Native.Nat.{◌-◌}
 use native.Mathlib.Omega.{arith}
-use Rattle.devices.specs.Step.{light_row}
 use Rattle.updates.specs.Tick.{with_lights}
-use Rattle.updates.proofs.Turns.{Turns, turns_all, turning}
+use Rattle.updates.proofs.Turns.{turns_all, turning}
 use Rattle.updates.proofs.state.set_lights.Goals as goal
 
 pub loop-i-init : goal.loop-i-init

@@ -1,10 +1,7 @@
 -- `updates::state::set_lights` meets its contract. The loop's invariant: the lamps and bulbs of the rows passed are set. Assumes nothing.
-use borrow.Author.Rules.{rules}
 use Prim.Native.Nat.{◌-◌}
-use native.Mathlib.Omega.{arith}
 use Rattle.devices.specs.Step.{light_row}
-use Rattle.updates.specs.Tick.{with_lights}
-use Rattle.updates.proofs.Turns.{Turns, turns_all, turning}
+use Rattle.updates.proofs.Turns.{Turns}
 use Rattle.updates.proofs.state.set_lights.Given as goal
 
 abbrev pub invariant-loop-i : goal.invariant-loop-i
