@@ -5,17 +5,16 @@ use native.Mathlib.Nat.{zero-add}
 use native.Mathlib.Omega.{arith}
 use lib.ListN.{length}
 use lib.Dec.{eqb}
-use borrow.Author.Rules.{rules}
 use Rattle.levels.specs.Numbers.{number}
 use Rattle.figures.proofs.Counting.{added_none, added_one, added_same, added_is, eqb_suc}
 use Rattle.figures.proofs.with_rounds.Goals as goal
 
 pub overflow_add-more : goal.overflow_add-more
-overflow_add-more c = record { fits = c.requires.1 (c.args.rounds - 1) }
+overflow_add-more c = record { fits = c.requires.by_index (c.args.rounds - 1) }
 
 pub returns : goal.returns
 returns c = let n = c.args.rounds in
-    let sized : length c.args.counts ≡ 17 = c.well-formed.0.1.0.1 in
+    let sized : length c.args.counts ≡ 17 = omega arith in
     added_is
     (added_same {f = λ k. number (eqb n (k + 1))} (added_one (added_none {old = c.args.counts} sized) (n - 1) (omega arith))
-    (λ k l. zero-add _ ∙ ap number (eqb_suc n k c.requires.0.0)))
+    (λ k l. zero-add _ ∙ ap number (eqb_suc n k c.requires.le_rounds.0)))

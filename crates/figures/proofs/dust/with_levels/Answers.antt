@@ -1,66 +1,62 @@
 -- Answers of `figures::dust::with_levels`.
-use mathlib.Core.Path.{◌≡◌, refl, sym, ap, ◌∙◌}
-use mathlib.Core.Logic.{⊎_elim}
-use mathlib.Core.Bool.{true, false}
-use Prim.Native.Nat.{◌+◌, ◌-◌, ◌≤◌, ◌<◌, zero-le}
+use mathlib.Core.Path.{◌≡◌, refl, sym, ◌∙◌}
+use Prim.Native.Nat.{ℕ, ◌<◌, zero-le}
 use native.Mathlib.Omega.{arith}
 use lib.ListN.{length}
-use borrow.Author.Rules.{rules}
 use borrow.Author.Tests.{eq-eqb, ne_eqb}
-use Rattle.columns.specs.Column.{row}
-use Rattle.blocks.specs.Kind.{is_dust}
+use Rattle.columns.specs.Column.{Bytes, Column, row}
 use Rattle.world.specs.Rows.{rows, kind_of}
 use Rattle.figures.specs.Figures.{count_below, is_dust_at}
-use Rattle.figures.proofs.Counting.{count_most, Added, added_none, added_same, added_is, added_dust, added_other}
+use Rattle.figures.specs.Room.{Capped}
+use Rattle.figures.proofs.Counting.{count_most, added_none, added_same, added_is, added_dust, added_other}
 use Rattle.figures.proofs.dust.with_levels.Goals as goal
+use Rattle.figures.proofs.dust.with_levels.Goals.{then-kind_of-eq-REDSTONE_WIRE, else-kind_of-eq-REDSTONE_WIRE}
 
 -- the level of a dust row is one of the sixteen
-level : (c : goal.After-byte_at-level) → c.byte_at-level.result < 16
-level c =
-    let kind = c in
-    let l = kind in
-    let start = l in
-    let within : l.loop-i.i < rows start.args.table.now = rw (← l.loop-i.invariant.0) (omega arith) in
-    let dust = eq-eqb _ 3 (sym kind.kind_of.ensures ∙ c.if-kind_of-eq-REDSTONE_WIRE.true) in
-    rw c.byte_at-level.ensures (omega (arith, start.requires.0.level l.loop-i.i within dust))
+level : {t : Bytes} {s : Column} {n i kind lev : ℕ} → Capped t s → n ≡ rows t → i < n → kind ≡ kind_of t i → kind ≡ 3 → lev ≡ row s i → lev < 16
+level {t} {s} {n} {i} capped counted h is dust at =
+    let within : i < rows t = rw (← counted) h in
+    rw at (omega (arith, capped.level i within (eq-eqb _ 3 (sym is ∙ dust))))
 
 pub loop-i-init : goal.loop-i-init
 unfolding count_below
-loop-i-init c = let sized : length c.args.levels ≡ 16 = c.well-formed.0.1.0.1 in
+loop-i-init c = let sized : length c.args.levels ≡ 16 = omega arith in
     (c.rows-n.ensures, zero-le, added_same (added_none {old = c.args.levels} sized) (λ l h. refl))
 
 pub offset_bounds-counts-level : goal.offset_bounds-counts-level
-offset_bounds-counts-level c = record { fits = omega (arith, level c) }
+offset_bounds-counts-level c =
+    record { fits = omega (arith, level c.requires.capped c.loop-i.invariant.0 c.loop-i-test.true c.kind_of.ensures c.if-kind_of-eq-REDSTONE_WIRE.true c.byte_at-level.ensures) }
 
 pub bounds-counts-level : goal.bounds-counts-level
-bounds-counts-level c = level c
+bounds-counts-level c =
+    level c.requires.capped c.loop-i.invariant.0 c.loop-i-test.true c.kind_of.ensures c.if-kind_of-eq-REDSTONE_WIRE.true c.byte_at-level.ensures
 
 pub overflow_add-counts : goal.overflow_add-counts
-overflow_add-counts c = let l = c in
-    let start = l in
+overflow_add-counts c =
     let at = c.byte_at-level.result in
-    let here = is_dust_at start.args.table.now start.args.signal.now at in
-    record { fits = rw (l.loop-i.invariant.2.counts at (level c)) (omega (arith, l.loop-i.invariant.0, start.requires.1 at, start.requires.0.few, count_most here l.loop-i.i)) }
+    let here = is_dust_at c.args.table.now c.args.signal.now at in
+    let low = level c.requires.capped c.loop-i.invariant.0 c.loop-i-test.true c.kind_of.ensures c.if-kind_of-eq-REDSTONE_WIRE.true c.byte_at-level.ensures in
+    record { fits = rw (c.loop-i.invariant.2.counts at low) (omega (arith, c.loop-i.invariant.0, c.requires.by_index at, c.requires.capped.few, count_most here c.loop-i.i)) }
 
 pub bounds-counts-level-then-kind_of-eq-REDSTONE_WIRE : goal.bounds-counts-level-then-kind_of-eq-REDSTONE_WIRE
-bounds-counts-level-then-kind_of-eq-REDSTONE_WIRE c = level c
+bounds-counts-level-then-kind_of-eq-REDSTONE_WIRE c =
+    level c.requires.capped c.loop-i.invariant.0 c.loop-i-test.true c.kind_of.ensures c.if-kind_of-eq-REDSTONE_WIRE.true c.byte_at-level.ensures
 
 pub loop-i-preserved : goal.loop-i-preserved
-loop-i-preserved c = let l = c in
-    let a = l.args in
-    let table = a.table.now in
-    let signal = a.signal.now in
-    let i = l.loop-i.i in
-    let inv = l.loop-i.invariant in
+loop-i-preserved c = let table = c.args.table.now in
+    let signal = c.args.signal.now in
+    let i = c.loop-i.i in
+    let inv = c.loop-i.invariant in
     let kind = c.kind_of.ensures in (
       inv.0,
       omega arith,
-      ⊎_elim
-          (λ w.
-          let there = level (record { before = record { before = c; if1 = w.0 }; byte_at = w.1 }) in
-          rw (w.2, w.1.ensures) (added_dust table signal i inv.2 (eq-eqb (kind_of table i) 3 (sym kind ∙ w.0.taken)) (rw w.1.ensures at there)))
-          (λ w. rw w.1 (added_other table signal i inv.2 (ne_eqb (kind_of table i) 3 (λ e. w.0.left (kind ∙ e)))))
-          c.if-kind_of-eq-REDSTONE_WIRE.branch,
+      elim c.if-kind_of-eq-REDSTONE_WIRE.branch [
+        | then-kind_of-eq-REDSTONE_WIRE w ↦
+            let low = level c.requires.capped inv.0 c.loop-i-test.true kind w.if-kind_of-eq-REDSTONE_WIRE.true w.byte_at-level.ensures in
+            rw (w.counts-is, w.byte_at-level.ensures) (added_dust table signal i inv.2 (eq-eqb (kind_of table i) 3 (sym kind ∙ w.if-kind_of-eq-REDSTONE_WIRE.true)) (rw w.byte_at-level.ensures at low))
+        | else-kind_of-eq-REDSTONE_WIRE w ↦
+            rw w.counts-is (added_other table signal i inv.2 (ne_eqb (kind_of table i) 3 (λ e. w.if-kind_of-eq-REDSTONE_WIRE.false (kind ∙ e))))
+      ],
     )
 
 pub returns : goal.returns
