@@ -15,7 +15,6 @@ use Rattle.columns.specs.declared.Found.{Found}
 use Rattle.columns.specs.declared.Found.TheVariants.{At, Nothing}
 use Rattle.columns.proofs.Columns.{length_tabulate, row_tabulate, same_rule}
 use Rattle.blocks.specs.Kind.{Air, is_dust}
-use Rattle.blocks.specs.Profile.{torch_charges_above}
 use Rattle.places.specs.declared.Pos.{Pos}
 use Rattle.places.specs.Places.{North, East, South, West, is_horizontal, beside, above}
 use Rattle.world.specs.Rows.{rows, pos_of, kind_of, stored_arm}

@@ -1,14 +1,12 @@
 -- Laws of the classes of the kinds, where their shape is plain.
 -- Assumes nothing.
-use mathlib.Core.Path.{◌≡◌, ap, ap₂}
-use mathlib.Core.Bool.{Bool, true, false, cond}
+use mathlib.Core.Path.{◌≡◌}
 use Prim.Native.Nat.{ℕ, ◌+◌, ◌*◌, ◌<◌}
 use native.Mathlib.Omega.{arith}
 use lib.ListN.{length}
 use borrow.Author.Tests.{eq-eqb, ne_eqb}
 use Rattle.columns.specs.Column.{Bytes, row}
 use Rattle.columns.proofs.Columns.{length_tabulate, row_tabulate}
-use Rattle.blocks.specs.Profile.{supports_components}
 use Rattle.world.specs.Rows.{rows, kind_of, facing_of, shape_of}
 use Rattle.traits.specs.Shapes.{Plain}
 use Rattle.traits.specs.Traits.{plain, of_shape, traits}

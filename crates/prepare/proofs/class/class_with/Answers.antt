@@ -1,5 +1,4 @@
 -- `prepare::class::class_with` meets its contract. Assumes nothing.
-use borrow.Author.Rules.{rules}
 use native.Mathlib.Omega.{arith}
 use Rattle.prepare.proofs.class.class_with.Goals as goal
 

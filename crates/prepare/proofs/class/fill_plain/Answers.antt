@@ -1,11 +1,8 @@
 -- Answers of `prepare::class::fill_plain`.
-use borrow.Author.Rules.{rules}
 use mathlib.Core.Path.{ap, ◌∙◌}
-use Prim.Native.Nat.{◌-◌}
 use native.Mathlib.Omega.{arith}
-use Rattle.columns.proofs.Columns.{Filled, filled_none, filled_more, filled_all}
-use Rattle.traits.specs.Traits.{plain}
-use Rattle.prepare.specs.Classes.{kinds, class_with, plain_classes}
+use Rattle.columns.proofs.Columns.{filled_none, filled_more, filled_all}
+use Rattle.prepare.specs.Classes.{class_with, plain_classes}
 use Rattle.prepare.proofs.class.fill_plain.Goals as goal
 
 pub loop-k-init : goal.loop-k-init

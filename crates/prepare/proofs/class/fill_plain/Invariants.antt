@@ -1,15 +1,12 @@
 -- `prepare::class::fill_plain` meets its contract. The loop's invariant: the classes of the first k kinds are written. Assumes nothing.
-use borrow.Author.Rules.{rules}
-use mathlib.Core.Path.{ap, ◌∙◌}
 use Prim.Native.Nat.{◌-◌}
-use native.Mathlib.Omega.{arith}
-use Rattle.columns.proofs.Columns.{Filled, filled_none, filled_more, filled_all}
+use Rattle.columns.proofs.Columns.{Filled}
 use Rattle.traits.specs.Traits.{plain}
-use Rattle.prepare.specs.Classes.{kinds, class_with, plain_classes}
+use Rattle.prepare.specs.Classes.{kinds, class_with}
 use Rattle.prepare.proofs.class.fill_plain.Given as goal
 
 abbrev pub invariant-loop-k : goal.invariant-loop-k
-invariant-loop-k l = Filled (λ l.k. class_with l.profile l.k (plain l.profile l.k)) kinds l.k l.out
+invariant-loop-k l = Filled (λ k. class_with l.profile k (plain l.profile k)) kinds l.k l.out
 
 abbrev pub decreases-loop-k : goal.decreases-loop-k
 decreases-loop-k l = kinds - l.k

@@ -1,10 +1,7 @@
 -- Answers of `prepare::class::fill_rows`.
-use borrow.Author.Rules.{rules}
-use Prim.Native.Nat.{◌-◌}
 use native.Mathlib.Omega.{arith}
-use Rattle.columns.proofs.Columns.{Filled, filled_none, filled_more, filled_all}
-use Rattle.world.specs.Rows.{rows}
-use Rattle.prepare.specs.Classes.{armless, armless_of}
+use Rattle.columns.proofs.Columns.{filled_none, filled_more, filled_all}
+use Rattle.prepare.specs.Classes.{armless_of}
 use Rattle.prepare.proofs.class.fill_rows.Goals as goal
 
 pub loop-i-init : goal.loop-i-init

@@ -1,10 +1,8 @@
 -- `prepare::class::fill_rows` meets its contract. The loop's invariant: the first i rows are the rule's. Assumes nothing.
-use borrow.Author.Rules.{rules}
 use Prim.Native.Nat.{◌-◌}
-use native.Mathlib.Omega.{arith}
-use Rattle.columns.proofs.Columns.{Filled, filled_none, filled_more, filled_all}
+use Rattle.columns.proofs.Columns.{Filled}
 use Rattle.world.specs.Rows.{rows}
-use Rattle.prepare.specs.Classes.{armless, armless_of}
+use Rattle.prepare.specs.Classes.{armless}
 use Rattle.prepare.proofs.class.fill_rows.Given as goal
 
 abbrev pub invariant-loop-i : goal.invariant-loop-i
