@@ -1,5 +1,4 @@
 -- `adjacency::fill_near_in` meets its contract. Assumes nothing.
-use borrow.Author.Rules.{rules}
 use mathlib.Core.Path.{sym, ◌∙◌}
 use Rattle.adjacency.specs.Search.{Placed}
 use Rattle.adjacency.proofs.Found.{placed_long, placed_rises}

@@ -1,10 +1,9 @@
 -- `adjacency::fill_place` meets its contract. Assumes nothing.
-use borrow.Author.Rules.{rules}
 use mathlib.Core.Path.{◌≡◌, refl, ap, sym, ◌∙◌}
-use Prim.Native.Nat.{ℕ, ◌+◌, ◌≤◌, ◌<◌}
+use Prim.Native.Nat.{ℕ, ◌+◌, ◌≤◌}
 use native.Mathlib.Omega.{arith}
 use lib.ListN.{length}
-use Rattle.columns.specs.Column.{Bytes, Column}
+use Rattle.columns.specs.Column.{Column}
 use Rattle.world.specs.Rows.{rows}
 use Rattle.adjacency.specs.Steps.{step_x, step_y, here}
 use Rattle.adjacency.specs.Search.{Placed, walked}

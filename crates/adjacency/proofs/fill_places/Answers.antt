@@ -1,10 +1,7 @@
 -- Answers of `adjacency::fill_places`.
-use borrow.Author.Rules.{rules}
-use Prim.Native.Nat.{◌-◌}
 use native.Mathlib.Omega.{arith}
-use Rattle.classes.specs.Towards.{places}
 use Rattle.adjacency.proofs.Found.{placed_long}
-use Rattle.adjacency.proofs.Placing.{Placing, placing_none, placing_fits, placing_room, placing_more, placing_all}
+use Rattle.adjacency.proofs.Placing.{placing_none, placing_fits, placing_room, placing_more, placing_all}
 use Rattle.adjacency.proofs.fill_places.Goals as goal
 
 pub loop-place-init : goal.loop-place-init

@@ -1,11 +1,9 @@
 -- Answers of `adjacency::inverse::copy`.
 use borrow.Author.Rules.{rules}
 use mathlib.Core.Path.{refl, sym, ◌∙◌}
-use Prim.Native.Nat.{◌-◌}
 use native.Mathlib.Omega.{arith}
-use lib.ListN.{length}
 use Rattle.columns.specs.Column.{row}
-use Rattle.columns.proofs.Columns.{Filled, filled_none, filled_all, fills, is_tabulate}
+use Rattle.columns.proofs.Columns.{filled_none, filled_all, fills, is_tabulate}
 use Rattle.adjacency.proofs.inverse.copy.Goals as goal
 
 pub loop-i-init : goal.loop-i-init

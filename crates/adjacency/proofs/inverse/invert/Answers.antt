@@ -1,11 +1,9 @@
 -- Answers of `adjacency::inverse::invert`.
-use borrow.Author.Rules.{rules}
 use mathlib.Core.Path.{ap, sym, ◌∙◌}
-use Prim.Native.Nat.{◌-◌}
 use native.Mathlib.Nat.{sub-zero}
 use native.Mathlib.Omega.{arith}
 use lib.ListN.{length}
-use Rattle.adjacency.proofs.Inverting.{Inverting, inverting_none, inverting_more, inverting_all, inverse_long}
+use Rattle.adjacency.proofs.Inverting.{inverting_none, inverting_more, inverting_all, inverse_long}
 use Rattle.adjacency.proofs.inverse.invert.Goals as goal
 
 pub loop-i-init : goal.loop-i-init

@@ -1,12 +1,8 @@
 -- Answers of `adjacency::search::fill_next`.
-use borrow.Author.Rules.{rules}
 use mathlib.Core.Path.{sym, ◌∙◌}
-use Prim.Native.Nat.{◌+◌, ◌-◌}
 use native.Mathlib.Omega.{arith}
-use lib.ListN.{length, length-set}
-use Rattle.columns.specs.Column.{row}
-use Rattle.columns.proofs.Columns.{Filled, filled_none, filled_more}
-use Rattle.adjacency.specs.Search.{row_at}
+use lib.ListN.{length-set}
+use Rattle.columns.proofs.Columns.{filled_none, filled_more}
 use Rattle.adjacency.proofs.Searching.{reached_end, next_reached, next_all}
 use Rattle.adjacency.proofs.search.fill_next.Goals as goal
 
