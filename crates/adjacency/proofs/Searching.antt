@@ -1,6 +1,6 @@
--- Laws of the searches of a column that rises: by halves, by a walk, and in the next row alone.
+-- Laws of the searches of a column that rises, by halves and by a walk.
 -- Assumes nothing.
-use mathlib.Core.Path.{◌≡◌, ap, sym, ◌∙◌}
+use mathlib.Core.Path.{◌≡◌, sym, ◌∙◌}
 use mathlib.Core.Bool.{false}
 use Prim.Native.Nat.{ℕ, zero, suc, ◌+◌, ◌-◌, ◌/◌, ◌≤◌, ◌<◌}
 use native.Mathlib.Omega.{arith}
@@ -10,9 +10,8 @@ use borrow.Author.Count.{below_more}
 use borrow.Author.Tests.{lt-ltb, le-ltb, eq-eqb, ne_eqb}
 use Rattle.columns.specs.Column.{Column, row}
 use Rattle.columns.proofs.First.{at_first, none_first}
-use Rattle.columns.proofs.Columns.{length_tabulate, same_rule, Filled, filled_none, filled_more, filled_all}
+use Rattle.columns.proofs.Columns.{Filled, filled_none, filled_more, filled_all}
 use Rattle.circuit.specs.Circuit.{no_row}
-use Rattle.adjacency.specs.Steps.{here}
 use Rattle.adjacency.specs.Search.{Rising, is_past, if_is, row_at, stepped, walked, Passed, Reached}
 
 -- ---- where a search ends
@@ -52,23 +51,6 @@ module _ {s : Column} (r : Rising s) where
 
   pub rises_on : (i k : ℕ) → i < k → k < length s → row s i < row s k
   rises_on i k l h = let e : i + suc (k - suc i) ≡ k = omega arith in rw e at (from i (k - suc i) (omega arith))
-
-  -- a search for one more than the number of row i ends at the next row
-  pub next_reached : (i : ℕ) → i < length s → Reached s (row s i + 1) (i + 1)
-  next_reached i l =
-      record {
-        passed =
-            record {
-              within = omega arith;
-              earlier = below_more (λ k. row s k < row s i + 1) i (λ k m. omega (arith, rises_on k i m l)) (omega arith);
-            };
-        past = λ m. omega (arith, r.rises i m);
-      }
-
--- the rows that the loop finds so are those at that step
-pub next_all : (s : Column) {i : ℕ} {out : Column} → Filled (λ k. row_at s (row s k + 1)) (length s) i out → length s ≤ i → out ≡ walked s (here + 1)
-unfolding walked
-next_all s h l = filled_all h l ∙ same_rule (length s) (λ k. row_at s (row s k + 1)) (λ k. row_at s (stepped s (here + 1) k)) (λ k _. ap (row_at s) (omega arith))
 
 -- ---- a search by halves
 
@@ -127,7 +109,3 @@ module _ {s : Column} {step i p : ℕ} {out : Column} (h : Walking s step i p ou
   pub walking_all : length s ≤ i → out ≡ walked s step
   unfolding walked
   walking_all l = filled_all h.filled l
-
-pub walked_long : (s : Column) (step : ℕ) → length (walked s step) ≡ length s
-unfolding walked
-walked_long s step = length_tabulate (length s) 0 (λ i. row_at s (stepped s step i))

@@ -1,4 +1,3 @@
 pub mod Adjacency
 pub mod Steps
 pub mod Search
-pub mod Inverse

@@ -7,7 +7,7 @@ use Rattle.world.specs.Rows.{rows}
 use Rattle.refusals.specs.Accepted.{Table}
 use Rattle.circuit.specs.Circuit.{no_row}
 use Rattle.adjacency.specs.Adjacency.{row_by, positions_of}
-use Rattle.adjacency.specs.Steps.{step_x, step_y, here}
+use Rattle.adjacency.specs.Steps.{here}
 
 -- the column is that of an accepted table's positions
 pub record Placed (t : Bytes) (s : Column) : Type 0 where
@@ -46,12 +46,6 @@ stepped s step i = row s i + step - here
 -- the row at a step from each row
 unfoldable pub walked : Column → ℕ → Column
 walked s step = tabulate (length s) (λ i. row_at s (stepped s step i))
-
--- the rows at one step along z, along x and along y: to the South, to the East and above
-pub record Ahead (s south east above : Column) : Type 0 where
-  pub south_is : south ≡ walked s (here + 1)
-  pub east_is : east ≡ walked s (here + step_x)
-  pub above_is : above ≡ walked s (here + step_y)
 
 -- every row before row p is below the number
 pub record Passed (s : Column) (want p : ℕ) : Type 0 where

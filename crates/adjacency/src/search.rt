@@ -1,6 +1,5 @@
 // Searches of a column of positions, which rises.
-ghost use Rattle.std.specs.Prelude.{◌≡◌, ◌+◌, ◌≤◌, ◌<◌, length};
-ghost use Rattle.adjacency.specs.Steps.{here};
+ghost use Rattle.std.specs.Prelude.{◌≡◌, ◌≤◌, ◌<◌, length};
 ghost use Rattle.adjacency.specs.Search.{Rising, row_at, walked, Passed, Reached};
 
 use crate::positions::HERE;
@@ -70,20 +69,5 @@ pub fn walk(column: &[u64], step: u64, out: &mut [u16])
         let want = column[i] + step - HERE;
         p = advance(column, p, want);
         out[i] = if_is(column, want, p);
-    }
-}
-
-// The row whose number is one more than that of each row, which can only be the next row.
-pub fn fill_next(column: &[u64], out: &mut [u16])
-    requires { Rising column.now × (length out.old ≡ length column.now) }
-    ensures { out.new ≡ walked column.now (here + 1) }
-{
-    let mut i = 0;
-    while i + 1 < column.len() {
-        out[i] = if_is(column, column[i] + 1, i + 1);
-        i += 1;
-    }
-    if i < out.len() {
-        out[i] = NO_ROW;
     }
 }

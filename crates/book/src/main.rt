@@ -5,6 +5,8 @@ mod report;
 mod table;
 mod test11;
 
-fn main() {
-    test11::run();
+use std::io;
+
+fn main(rt: HostRuntime) -> io::Result<()> {
+    test11::run(&rt)
 }

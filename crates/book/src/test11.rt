@@ -6,6 +6,7 @@ use crate::report::line;
 use crate::table::{BENCH_PROFILE, put_block, put_line};
 use blocks::kind;
 use refusals::Checked;
+use std::io;
 
 fn refusal_number(checked: Checked) -> u8
     ensures { result ≡ refusal_number checked }
@@ -48,9 +49,9 @@ fn rows_1025() -> u64 {
     rows(&mut [0u8; 32800], 1025)
 }
 
-pub fn run() {
-    line(11, b"coordinate_1000000", coordinate(1000000));
-    line(11, b"coordinate_1000001", coordinate(1000001));
-    line(11, b"rows_1024", rows_1024());
-    line(11, b"rows_1025", rows_1025());
+pub fn run(rt: &impl Print) -> io::Result<()> {
+    line(rt, 11, "coordinate_1000000", coordinate(1000000))?;
+    line(rt, 11, "coordinate_1000001", coordinate(1000001))?;
+    line(rt, 11, "rows_1024", rows_1024())?;
+    line(rt, 11, "rows_1025", rows_1025())
 }

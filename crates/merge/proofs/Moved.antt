@@ -1,11 +1,11 @@
 -- The rows of a moved table are the rows of the table, moved.
 -- Assumes nothing.
 use mathlib.Core.Path.{◌≡◌, refl, ap₂, sym, ◌∙◌}
-use mathlib.Core.List.{[], ◌∷◌, map}
+use mathlib.Core.List.{◌∷◌, map}
 use Prim.Native.Nat.{ℕ, zero, suc, ◌+◌, ◌*◌, ◌≤◌, ◌<◌}
 use native.Mathlib.Omega.{arith}
 use lib.ListN.{length}
-use Rattle.columns.specs.Column.{Bytes, part}
+use Rattle.columns.specs.Column.{Bytes}
 use Rattle.places.specs.declared.Pos.{Pos}
 use Rattle.world.specs.Rows.{rows}
 use Rattle.moving.specs.Move.{moved_row, moved_table}

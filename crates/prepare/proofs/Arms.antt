@@ -28,9 +28,9 @@ use Rattle.classes.specs.Class.{blocks_in, kind_in}
 use Rattle.classes.specs.Towards.{places, Above}
 use Rattle.circuit.specs.Circuit.{no_row, beside_in}
 use Rattle.adjacency.specs.Adjacency.{place_by, row_by, near_of}
-use Rattle.prepare.specs.Classes.{armless, arm_bits, arms_along, class_of, armless_of, classes_of}
+use Rattle.prepare.specs.Classes.{bit, armless, arm_bits, arms_along, class_of, armless_of, classes_of}
 use Rattle.prepare.specs.Arms.{joins_in, rises_in, infer_in, arm_past, arm_from, arms_from, with_arms}
-use Rattle.prepare.proofs.Decoded.{no_arm, rise_number, kind_number, class_with_small, facing_number, stored_small, all_arms, Decoded, decoded_with}
+use Rattle.prepare.proofs.Decoded.{no_arm, rise_number, kind_number, facing_number, stored_small, all_arms, Decoded, decoded_with}
 use Rattle.prepare.proofs.Rows.{or_no_row, beside_by}
 use Rattle.prepare.proofs.Along.{less_one}
 
@@ -174,11 +174,22 @@ module _ (p t : Bytes) (table : Table t) where
   unfolding armless
   armless_small i = by_cases (dec_lt i (rows t)) inside (λ n. rw (bare_past p t i (omega arith)) (omega arith))
     where
+      bit_few : (v : ℕ) (b : Bool) → bit v b ≤ v
+      bit_few v true = omega arith
+      bit_few v false = omega arith
+
       inside : i < rows t → bare p t i < 16777216
       inside l =
+          let r = traits p t i in
           rw (bare_is p t i l)
           (omega (
             arith,
-            class_with_small p (kind_of t i) (traits p t i) (rise_number p t i) (kind_number t table i l).1,
+            (rise_number p t i).few,
+            bit_few 4 r.blocks,
+            bit_few 8 r.weak,
+            bit_few 16 r.strong,
+            bit_few 32 r.drives,
+            bit_few 128 (torch_charges_above p),
+            (kind_number t table i l).1,
             facing_number t table i l,
           ))

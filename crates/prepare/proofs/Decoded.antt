@@ -22,14 +22,13 @@ use Rattle.places.specs.Places.{North, East, South, West, horizontals, is_horizo
 use Rattle.world.specs.Rows.{rows, byte_of, pos_of, kind_of, facing_of, shape_of, has_stored_arms, arm_entry, stored_arm}
 use Rattle.world.specs.Find.{find}
 use Rattle.traits.specs.Shapes.{Plain, TopSlab, DoubleSlab, TopStairs, Glass}
-use Rattle.traits.specs.declared.BlockRedstoneTraits.{BlockRedstoneTraits}
 use Rattle.traits.specs.Traits.{nothing, top_half, double_slab, glass, plain, of_shape, traits, traits_at}
 use Rattle.layout.specs.Good.{is_entry}
 use Rattle.layout.proofs.Fields.{Kind, Facing, Arms, good-field}
 use Rattle.refusals.specs.Accepted.{Table}
 use Rattle.arms.specs.Arms.{joins, rises, drops, infer_past, infer_wire_connection, arm_of}
 use Rattle.classes.specs.Class.{has, rise_in, blocks_in, weak_in, strong_in, drives_in, charges_above_in, kind_in, facing_in, arm_in}
-use Rattle.prepare.specs.Classes.{bit, class_with, armless, arm_bits, arms_along, class_of}
+use Rattle.prepare.specs.Classes.{bit, armless, arm_bits, arms_along, class_of}
 
 -- ---- arms and rises
 
@@ -51,17 +50,13 @@ side = omega arith
 up : ArmNumber 3
 up = omega arith
 
-pub plain-rise : (p : Bytes) (k : ℕ) → ArmNumber (plain p k).rise
-unfolding plain
-plain-rise p k = either ArmNumber (supports_components p k) up no_arm
-
 module _ (p t : Bytes) where
   pub rise_number : (i : ℕ) → ArmNumber (traits p t i).rise
-  unfolding traits of_shape
+  unfolding traits plain of_shape
   rise_number i = let s = shape_of t i in go (eqb s Plain) (one_of (TopSlab ∷ TopStairs ∷ []) s) (eqb s DoubleSlab) (eqb s Glass)
     where
       go : (a b c d : Bool) → ArmNumber (cond a (plain p (kind_of t i)) (cond b top_half (cond c double_slab (cond d glass nothing)))).rise
-      go true b c d = plain-rise p (kind_of t i)
+      go true b c d = either ArmNumber (supports_components p (kind_of t i)) up no_arm
       go false true c d = side
       go false false true d = up
       go false false false true = up
@@ -125,7 +120,7 @@ module _ (t : Bytes) (table : Table t) (i : ℕ) (inside : i < rows t) where
 module _ (r b w s d a k f n e o v : ℕ) where
   abbrev sum : ℕ
   sum =
-      r + (4 * b + (8 * w + (16 * s + 32 * d))) + (128 * a + k * 256) + f * 65536
+      r + (4 * b + (8 * w + (16 * s + 32 * d))) + (128 * a + (k * 256 + f * 65536))
       + (n * 16777216 + (e * 67108864 + (o * 268435456 + v * 1073741824)))
 
   record Parts : Type 0 where
@@ -153,15 +148,6 @@ bit_small false = omega arith
 bit_times : (b : Bool) (v : ℕ) → bit v b ≡ v * bit 1 b
 bit_times true v = omega arith
 bit_times false v = omega arith
-
-bit_few : (v : ℕ) (b : Bool) → bit v b ≤ v
-bit_few v true = omega arith
-bit_few v false = omega arith
-
--- what a class has of kind and traits is below the bits of the facing
-pub class_with_small : (p : Bytes) (k : ℕ) (r : BlockRedstoneTraits) → ArmNumber r.rise → k ≤ 13 → class_with p k r < 65536
-class_with_small p k r rise l =
-    omega (arith, rise.few, bit_few 4 r.blocks, bit_few 8 r.weak, bit_few 16 r.strong, bit_few 32 r.drives, bit_few 128 (torch_charges_above p))
 
 has_bit : (v c : ℕ) (b : Bool) → c / v % 2 ≡ bit 1 b → has v c ≡ b
 has_bit v c true e = rw e

@@ -1,5 +1,4 @@
 pub mod Decoded
-pub mod Plain
 pub mod Rows
 pub mod Sinks
 pub mod Along

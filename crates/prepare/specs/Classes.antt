@@ -8,7 +8,7 @@ use Rattle.places.specs.Places.{North, East, South, West, beside}
 use Rattle.world.specs.Rows.{rows, pos_of, kind_of, facing_of}
 use Rattle.world.specs.Find.{find}
 use Rattle.traits.specs.declared.BlockRedstoneTraits.{BlockRedstoneTraits}
-use Rattle.traits.specs.Traits.{plain, traits}
+use Rattle.traits.specs.Traits.{traits}
 use Rattle.arms.specs.Arms.{arm_of}
 use Rattle.adjacency.specs.Adjacency.{near_of}
 
@@ -20,22 +20,10 @@ bit value b = cond b value 0
 abbrev pub trait_bits : BlockRedstoneTraits → ℕ
 trait_bits r = (r.rise - 1) + (bit 4 r.blocks + (bit 8 r.weak + (bit 16 r.strong + bit 32 r.drives)))
 
--- rise, traits and kind, and whether a torch charges the block above
-abbrev pub class_with : Bytes → ℕ → BlockRedstoneTraits → ℕ
-class_with p kind r = trait_bits r + (bit 128 (torch_charges_above p) + kind * 256)
-
--- the kinds, Air among them
-abbrev pub kinds : ℕ
-kinds = 14
-
--- of each kind, where its shape is plain
-unfoldable pub plain_classes : Bytes → Column
-plain_classes p = tabulate kinds (λ k. class_with p k (plain p k))
-
 module _ (p t : Bytes) (i : ℕ) where
-  -- the same of row i, and its facing
+  -- rise and traits, kind and facing, of row i, and whether a torch charges the block above
   unfoldable pub armless : ℕ
-  armless = class_with p (kind_of t i) (traits p t i) + facing_of t i * 65536
+  armless = trait_bits (traits p t i) + (bit 128 (torch_charges_above p) + (kind_of t i * 256 + facing_of t i * 65536))
 
   -- its arm along f: 0 None, 1 Side, 2 Up. Where the cell beside is empty nothing is reached along it, and it is not asked for.
   unfoldable pub arm_bits : ℕ → ℕ

@@ -1,11 +1,11 @@
 // The classes of rows, before their arms are known.
-ghost use Rattle.std.specs.Prelude.{◌≡◌, ◌-◌, ◌*◌, ◌≤◌, ◌<◌, length};
-ghost use Rattle.world.specs.Rows.{rows};
-ghost use Rattle.refusals.specs.Accepted.{Table};
-ghost use Rattle.prepare.specs.Classes.{kinds, bit, trait_bits, class_with, plain_classes, armless, armless_of};
+ghost use Rattle.std.specs.Prelude.{◌≡◌, ◌-◌, ◌≤◌, ◌<◌, length};
+ghost use Rattle.columns.specs.Column.{tabulate};
+ghost use Rattle.prepare.specs.Classes.{bit, trait_bits, armless};
 
 use blocks::torch_charges_above;
-use traits::{BlockRedstoneTraits, of_shape, plain, shape};
+use traits::{BlockRedstoneTraits, redstone_traits};
+use world::row::{facing_of, kind_of};
 
 fn bit(value: u32, set: bool) -> u32
     ensures { (result ≡ bit value set) × (result ≤ value) }
@@ -31,66 +31,18 @@ fn trait_bits(traits: BlockRedstoneTraits) -> u32
             + (bit(8, traits.weak) + (bit(16, traits.strong) + bit(32, traits.drives))))
 }
 
-// What the class of a row has of its kind and its traits.
-fn class_with(profile: &[u8], kind: u8, traits: BlockRedstoneTraits) -> u32
-    ensures { (result ≡ class_with profile.now kind traits) × (result < 131072) }
-{
-    trait_bits(traits) + (bit(128, torch_charges_above(profile)) + kind as u32 * 256)
-}
-
-// The same of each kind, where its shape is plain.
-fn fill_plain(profile: &[u8], out: &mut [u32])
-    requires { length out.old ≡ kinds }
-    ensures { out.new ≡ plain_classes profile.now }
-{
-    for k in 0..out.len() {
-        out[k] = class_with(profile, k as u8, plain(profile, k as u8));
-    }
-}
-
-fn facing_bits(facing: u8) -> u32
-    ensures { (result ≡ facing * 65536) × (result < 16777216) }
-{
-    facing as u32 * 65536
-}
-
-// The class of a row without its arms: most shapes are plain, and their traits are not asked for again in each row.
-fn armless(profile: &[u8], plain: &[u32], table: &[u8], row: usize) -> u32
-    requires { (plain.now ≡ plain_classes profile.now) × Table table.now × (row < rows table.now) }
+fn armless(profile: &[u8], table: &[u8], row: usize) -> u32
     ensures { result ≡ armless profile.now table.now row }
 {
-    let start = row * 32;
-    let kind = table[start + 12];
-    let facing = facing_bits(table[start + 13]);
-    let shape = table[start + 28];
-    if shape == shape::PLAIN {
-        return plain[kind as usize] + facing;
-    }
-    class_with(profile, kind, of_shape(shape)) + facing
-}
-
-fn fill_rows(profile: &[u8], plain: &[u32], table: &[u8], out: &mut [u32])
-    requires { (plain.now ≡ plain_classes profile.now) × Table table.now × (length out.old ≡ rows table.now) }
-    ensures { out.new ≡ armless_of profile.now table.now }
-{
-    for i in 0..out.len() {
-        out[i] = armless(profile, plain, table, i);
-    }
-}
-
-// The same, with room for the classes of the kinds.
-fn fill_armless_in(profile: &[u8], plain: &mut [u32], table: &[u8], out: &mut [u32])
-    requires { (length plain.old ≡ kinds) × Table table.now × (length out.old ≡ rows table.now) }
-    ensures { out.new ≡ armless_of profile.now table.now }
-{
-    fill_plain(profile, plain);
-    fill_rows(profile, plain, table, out);
+    trait_bits(redstone_traits(profile, table, row))
+        + (bit(128, torch_charges_above(profile))
+            + (kind_of(table, row) as u32 * 256 + facing_of(table, row) as u32 * 65536))
 }
 
 pub fn fill_armless(profile: &[u8], table: &[u8], out: &mut [u32])
-    requires { Table table.now × (length out.old ≡ rows table.now) }
-    ensures { out.new ≡ armless_of profile.now table.now }
+    ensures { out.new ≡ tabulate (length out.old) (armless profile.now table.now) }
 {
-    let mut plain = [0u32; 14];
-    fill_armless_in(profile, &mut plain[0..14], table, out);
+    for i in 0..out.len() {
+        out[i] = armless(profile, table, i);
+    }
 }

@@ -16,8 +16,7 @@ ghost use Rattle.updates.specs.Calls.{Fresh, Ticks, Switches};
 use places::Pos;
 
 // The fresh state of a table, and what it settles to.
-#[unsafe(no_mangle)]
-pub extern "C" fn redstone_fresh(
+pub fn redstone_fresh(
     profile: &[u8],
     table: &[u8],
     state: &mut [u8],
@@ -31,8 +30,7 @@ pub extern "C" fn redstone_fresh(
 }
 
 // What a table settles to with a column of devices, within a limit of rounds.
-#[unsafe(no_mangle)]
-pub extern "C" fn redstone_settle(
+pub fn redstone_settle(
     profile: &[u8],
     table: &[u8],
     devices: &[u8],
@@ -47,8 +45,7 @@ pub extern "C" fn redstone_settle(
 }
 
 // The state that many ticks after the tick it stands at, and what it settles to.
-#[unsafe(no_mangle)]
-pub extern "C" fn redstone_tick(
+pub fn redstone_tick(
     profile: &[u8],
     table: &[u8],
     state: &mut [u8],
@@ -64,8 +61,7 @@ pub extern "C" fn redstone_tick(
 }
 
 // The table with the block at a position switched, any number but 0 being on, and what it settles to. The state is read and not written.
-#[unsafe(no_mangle)]
-pub extern "C" fn redstone_switch(
+pub fn redstone_switch(
     profile: &[u8],
     table: &mut [u8],
     state: &[u8],
@@ -85,16 +81,14 @@ pub extern "C" fn redstone_switch(
 }
 
 // The table with the arms of every dust drawn anew; answers 0.
-#[unsafe(no_mangle)]
-pub extern "C" fn redstone_redraw(profile: &[u8], table: &mut [u8]) -> u32
+pub fn redstone_redraw(profile: &[u8], table: &mut [u8]) -> u32
     ensures { Redraws profile.now table.old table.new result }
 {
     redraw::update_wire_shapes(profile, table)
 }
 
 // The numbers of the rows whose support is missing or does not support components, at the front of the column, the rest of it untouched; answers how many there are.
-#[unsafe(no_mangle)]
-pub extern "C" fn redstone_supports(profile: &[u8], table: &[u8], rows: &mut [u16]) -> u32
+pub fn redstone_supports(profile: &[u8], table: &[u8], rows: &mut [u16]) -> u32
     ensures { Listed profile.now table.now rows.old rows.new result }
 {
     supports::support_issues(profile, table, rows)
@@ -102,15 +96,7 @@ pub extern "C" fn redstone_supports(profile: &[u8], table: &[u8], rows: &mut [u1
 
 // The rows of the first table and those of the second, moved by the offset, at the front of the output, in order, each shared one once, the rest of
 // it untouched; answers how many rows there are. The output has 32,768 bytes. No profile is given, and rows of bulbs are good.
-#[unsafe(no_mangle)]
-pub extern "C" fn redstone_merge(
-    first: &[u8],
-    second: &[u8],
-    dx: i32,
-    dy: i32,
-    dz: i32,
-    out: &mut [u8],
-) -> u32
+pub fn redstone_merge(first: &[u8], second: &[u8], dx: i32, dy: i32, dz: i32, out: &mut [u8]) -> u32
     ensures { Merges first.now second.now (cell dx dy dz) out.old out.new result }
 {
     merge::merge(first, second, Pos::new(dx, dy, dz), out)
@@ -119,13 +105,7 @@ pub extern "C" fn redstone_merge(
 // The rows that are kept when every row that the support list names is removed, again and again until it names none: at the front of the output, in
 // order, the rest of it untouched; and for each row of the table the pass, from 1, in which it went, or 0. Answers how many rows are kept. The output
 // is as long as the table, and the column has an entry for each of its rows.
-#[unsafe(no_mangle)]
-pub extern "C" fn redstone_clear(
-    profile: &[u8],
-    table: &[u8],
-    kept: &mut [u8],
-    passes: &mut [u16],
-) -> u32
+pub fn redstone_clear(profile: &[u8], table: &[u8], kept: &mut [u8], passes: &mut [u16]) -> u32
     ensures { Clears profile.now table.now kept.old kept.new passes.old passes.new result }
 {
     clear::clear(profile, table, kept, passes)
@@ -133,8 +113,7 @@ pub extern "C" fn redstone_clear(
 
 // The feeder list of a table: for each row twelve entries, the numbers of the rows of dust that transmits into it, rising, then 65,535. Answers how many
 // rows there are.
-#[unsafe(no_mangle)]
-pub extern "C" fn redstone_feeders(profile: &[u8], table: &[u8], list: &mut [u16]) -> u32
+pub fn redstone_feeders(profile: &[u8], table: &[u8], list: &mut [u16]) -> u32
     ensures { Feeds profile.now table.now list.old list.new result }
 {
     feeders::feeders(profile, table, list)
@@ -142,8 +121,7 @@ pub extern "C" fn redstone_feeders(profile: &[u8], table: &[u8], list: &mut [u16
 
 // The table with one row replaced by another at its position, and the feeder list beside it: the entries of that row and of dust at most two cells away on
 // every axis written afresh, all others left as they are. Answers how many rows there are.
-#[unsafe(no_mangle)]
-pub extern "C" fn redstone_replace(
+pub fn redstone_replace(
     profile: &[u8],
     table: &mut [u8],
     row: u16,

@@ -1,28 +1,27 @@
 // Reads a profile and a table from standard input, and writes what the table settles to, or why it is refused.
 #![tactic(auto)]
 
-use libc::{STDERR_FILENO, STDIN_FILENO, STDOUT_FILENO};
 use reading::Input;
 
+// Writes a sentence to standard error. Where that cannot be written either, there is nobody to tell.
+fn say(rt: &impl Eprint, sentence: &str) {
+    let _ = rt.eprintln(sentence);
+}
+
 // Writes the text of what was read.
-fn report_on(input: &[u8]) {
-    let mut text = io::large_buffer();
+fn report_on(rt: &(impl Print + Eprint), input: &[u8]) {
+    let mut text = [0u8; report::ROOM];
     let count = report::settle_text(input, &mut text);
-    if !io::write_all(STDOUT_FILENO, &text[..count]) {
-        io::write_all(
-            STDERR_FILENO,
-            b"settle: standard output cannot be written\n",
-        );
+    if rt.write_all(&text[..count]).is_err() {
+        say(rt, "settle: standard output cannot be written");
     }
 }
 
 // One byte more than the longer profile and the largest table have is enough to tell that there are too many.
-fn main() {
+fn main(rt: HostRuntime) {
     let mut input = [0u8; report::TOO_MANY];
-    match reading::read_all(STDIN_FILENO, &mut input) {
-        Input::Bytes(n) => report_on(&input[..n]),
-        Input::Unreadable => {
-            io::write_all(STDERR_FILENO, b"settle: standard input cannot be read\n");
-        }
+    match reading::read_all(&mut rt.stdin(), &mut input) {
+        Input::Bytes(n) => report_on(&rt, &input[..n]),
+        Input::Unreadable => say(&rt, "settle: standard input cannot be read"),
     }
 }

@@ -1,16 +1,16 @@
 -- A stream that is written of tables is read as these tables: none is lost, none is added, whatever follows them.
 -- Assumes nothing.
-use mathlib.Core.Path.{◌≡◌, refl, ap, ◌∙◌}
-use mathlib.Core.List.{List, [], ◌∷◌, ◌++◌, append_assoc}
-use Prim.Native.Nat.{ℕ, zero, suc, ◌+◌, ◌*◌, ◌-◌, ◌/◌, ◌%◌, ◌≤◌}
+use mathlib.Core.Path.{◌≡◌, ap, ◌∙◌}
+use mathlib.Core.List.{List, [], ◌∷◌, ◌++◌}
+use Prim.Native.Nat.{ℕ, zero, suc, ◌*◌, ◌-◌, ◌/◌, ◌≤◌}
 use native.Mathlib.Omega.{arith}
-use lib.ListN.{length, take, drop, length-append}
+use lib.ListN.{length, length-append}
 use lib.Seq.{take_at, drop_at, drop-drop}
 use Rattle.columns.specs.Column.{Bytes}
 use Rattle.columns.proofs.Members.{All}
 use Rattle.words.specs.Words.{word, four_bytes}
 use Rattle.streams.specs.declared.Ending.TheVariants.{Whole}
-use Rattle.streams.specs.Stream.{table_bytes, first_table, later_tables, led, read_within, as_stream, IsWritable}
+use Rattle.streams.specs.Stream.{first_table, later_tables, read_within, as_stream, IsWritable}
 use Rattle.streams.proofs.Streams.{IsTable, read_table, read_nothing, joined, read_append}
 
 -- the table at the front, and what comes after it

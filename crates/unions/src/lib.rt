@@ -12,7 +12,7 @@ use subtables::copy_row;
 use world::row;
 
 // Which of the tables have the next row.
-#[derive(Drop)]
+#[derive(Clone, Copy)]
 struct Next {
     first: bool,
     second: bool,

@@ -3,28 +3,17 @@
 
 ghost use Rattle.std.specs.Prelude.{◌≡◌, length};
 
-use libc::STDOUT_FILENO;
+use reading::{Input, read_all};
 use replay::Tally;
+use std::io;
+use std::io::Read;
+use std::rt::Files;
 
-fn text(s: &[u8]) {
-    io::write_all(STDOUT_FILENO, s);
-}
-
-fn number(name: &[u8], n: usize) {
-    text(name);
-    io::print_decimal(STDOUT_FILENO, n as u64);
-    text(b"\n");
-}
-
-fn report(tally: Tally) {
-    number(b"records=", tally.records);
-    number(b"right=", tally.right);
-    number(b"wrong=", tally.wrong);
-    if tally.whole {
-        text(b"ended=whole\n");
-    } else {
-        text(b"ended=cut\n");
-    }
+fn report(rt: &impl Print, tally: Tally) -> io::Result<()> {
+    println!(rt; "records={}", tally.records)?;
+    println!(rt; "right={}", tally.right)?;
+    println!(rt; "wrong={}", tally.wrong)?;
+    println!(rt; "ended={}", if tally.whole { "whole" } else { "cut" })
 }
 
 // Room for the file. The `ensures` gives only the length, so that no caller's proof computes the list.
@@ -34,33 +23,27 @@ fn room() -> [u8; 262144]
     [0; 262144]
 }
 
-// What one read more answers after the last byte that was read: 0 at the end of the file.
-fn read_more(fd: i32) -> isize {
+// What one read more answers after the last byte that was read: no byte at the end of the file.
+fn read_more(file: &mut impl Read) -> Input {
     let mut one = [0u8; 1];
-    libc::read(fd, &mut one)
+    read_all(file, &mut one)
 }
 
-fn replay_file(fd: i32) {
+fn replay_file(rt: &impl Print, file: &mut impl Read) -> io::Result<()> {
     let mut bytes = room();
-    let n = io::read_full(fd, &mut bytes);
-    let more = read_more(fd);
-    if more < 0 {
-        text(b"The file vectors cannot be read.\n");
-        return;
+    let Input::Bytes(n) = read_all(file, &mut bytes) else {
+        return println!(rt; "The file vectors cannot be read.");
+    };
+    match read_more(file) {
+        Input::Unreadable => println!(rt; "The file vectors cannot be read."),
+        Input::Bytes(0) => report(rt, replay::replay(&bytes[..n])),
+        Input::Bytes(_) => println!(rt; "The file vectors is longer than 262,144 bytes."),
     }
-    if 0 < more {
-        text(b"The file vectors is longer than 262,144 bytes.\n");
-        return;
-    }
-    report(replay::replay(&bytes[..n]));
 }
 
-fn main() {
-    let fd = os::open_read(b"vectors");
-    if fd < 0 {
-        text(b"The file vectors cannot be opened.\n");
-        return;
-    }
-    replay_file(fd);
-    libc::close(fd);
+fn main(rt: HostRuntime) -> io::Result<()> {
+    let Ok(mut file) = std::fs::open(&rt, "vectors") else {
+        return println!(rt; "The file vectors cannot be opened.");
+    };
+    replay_file(&rt, &mut file)
 }

@@ -107,7 +107,7 @@ module _ (arm : ℕ → ℕ → ℕ) (p t : Bytes) (j i : ℕ) (r : InRange (pos
       let step = height_step (transfer_by arm p t j i) in
       Memᴰ.cast
       (sym (sideways_back (pos_of t j) r s.along s.inside (height_of (transfer_by arm p t j i)) (step_small step)) ∙ ap (λ q. sideways q (opposite s.along) (neg_ℤ (height_of (transfer_by arm p t j i)))) s.is)
-      (is_around (pos_of t i) horizontals (opposite s.along) (opposite_horizontal (pos_of t j) r s.along s.inside) (step_back step))
+      (is_around (pos_of t i) (opposite s.along) horizontals (opposite_horizontal (pos_of t j) r s.along s.inside) (step_back step))
 
   -- and the rule is told by the heights: Horizontal on the same height, Rise one up, FallThroughConductor one down
   pub rule_height : (pos_of t i).y ≡ (pos_of t j).y +ℤ height_of (transfer_by arm p t j i)

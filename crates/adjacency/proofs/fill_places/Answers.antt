@@ -1,14 +1,11 @@
 -- Answers of `adjacency::fill_places`.
-use borrow.Author.Rules.{rules}
-use Prim.Native.Nat.{◌-◌}
 use native.Mathlib.Omega.{arith}
-use Rattle.classes.specs.Towards.{places}
 use Rattle.adjacency.proofs.Found.{placed_long}
-use Rattle.adjacency.proofs.Placing.{Placing, placing_none, placing_fits, placing_room, placing_more, placing_all}
+use Rattle.adjacency.proofs.Placing.{placing_none, placing_fits, placing_room, placing_more, placing_all}
 use Rattle.adjacency.proofs.fill_places.Goals as goal
 
 pub loop-place-init : goal.loop-place-init
-loop-place-init c = let s = c in placing_none (placed_long s.requires.0) s.requires.2
+loop-place-init c = let s = c in placing_none (placed_long s.requires.0) s.requires.1
 
 pub overflow_mul-start : goal.overflow_mul-start
 overflow_mul-start c = omega (arith, placing_fits c.loop-place.invariant (omega arith))
@@ -29,9 +26,7 @@ pub slice_bounds-fill_place-end : goal.slice_bounds-fill_place-end
 slice_bounds-fill_place-end c = omega (arith, placing_fits c.loop-place.invariant (omega arith))
 
 pub fill_place-requires : goal.fill_place-requires
-fill_place-requires c = let l = c in
-    let s = l in
-    (s.requires.0, s.requires.1, placing_room l.loop-place.invariant (omega arith), omega arith)
+fill_place-requires c = let l = c in (l.requires.0, placing_room l.loop-place.invariant (omega arith), omega arith)
 
 pub loop-place-preserved : goal.loop-place-preserved
 loop-place-preserved c = placing_more c.loop-place.invariant (omega arith) c.fill_place.ensures

@@ -1,10 +1,7 @@
 -- `adjacency::fill_places` meets its contract. The loop's invariant: the columns of the places passed are written. Assumes nothing.
-use borrow.Author.Rules.{rules}
 use Prim.Native.Nat.{◌-◌}
-use native.Mathlib.Omega.{arith}
 use Rattle.classes.specs.Towards.{places}
-use Rattle.adjacency.proofs.Found.{placed_long}
-use Rattle.adjacency.proofs.Placing.{Placing, placing_none, placing_fits, placing_room, placing_more, placing_all}
+use Rattle.adjacency.proofs.Placing.{Placing}
 use Rattle.adjacency.proofs.fill_places.Given as goal
 
 abbrev pub invariant-loop-place : goal.invariant-loop-place

@@ -1,7 +1,6 @@
 -- `arms::arm_of` meets its contract. Assumes nothing.
 use mathlib.Core.Path.{sym, ◌∙◌}
 use borrow.Author.Tests.{eq-eqb, ne_eqb}
-use borrow.Author.Rules.{rules}
 use Rattle.arms.specs.Arms.{arm_of}
 use Rattle.arms.proofs.arm_of.Goals as goal
 

@@ -1,6 +1,5 @@
 -- `arms::component_connects` meets its contract, by what the look-up finds. Assumes nothing.
 use mathlib.Core.Path.{sym, ◌∙◌}
-use borrow.Author.Rules.{rules}
 use Rattle.arms.specs.Arms.{component_connects}
 use Rattle.arms.proofs.component_connects.Goals as goal
 

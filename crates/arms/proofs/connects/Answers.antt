@@ -1,5 +1,4 @@
 -- `arms::connects` meets its contract. Assumes nothing.
-use borrow.Author.Rules.{rules}
 use Rattle.arms.specs.Arms.{connects}
 use Rattle.arms.proofs.connects.Goals as goal
 

@@ -1,7 +1,6 @@
 -- `arms::drops` meets its contract. Assumes nothing.
 use mathlib.Core.Path.{sym, ◌∙◌}
 use borrow.Author.Tests.{eq-eqb, ne_eqb}
-use borrow.Author.Rules.{rules}
 use Rattle.arms.specs.Arms.{drops}
 use Rattle.arms.proofs.drops.Goals as goal
 

@@ -1,5 +1,4 @@
 -- `arms::has_arm` meets its contract. Assumes nothing.
-use borrow.Author.Rules.{rules}
 use Rattle.arms.specs.Arms.{has_arm}
 use Rattle.arms.proofs.has_arm.Goals as goal
 

@@ -1,6 +1,5 @@
 -- `arms::infer_past` meets its contract: its tests are those of the definition, in order. Assumes nothing.
 use mathlib.Core.Path.{sym, ap, ◌∙◌}
-use borrow.Author.Rules.{rules}
 use Rattle.arms.specs.Arms.{infer_past}
 use Rattle.arms.proofs.infer_past.Goals as goal
 

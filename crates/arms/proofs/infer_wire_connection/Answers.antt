@@ -1,6 +1,5 @@
 -- `arms::infer_wire_connection` meets its contract: a number outside North to West is no horizontal facing. Assumes nothing.
 use borrow.Author.Tests.{lt-leb, le-leb}
-use borrow.Author.Rules.{rules}
 use Rattle.places.specs.Places.{North, West}
 use Rattle.arms.specs.Arms.{infer_wire_connection}
 use Rattle.arms.proofs.infer_wire_connection.Goals as goal

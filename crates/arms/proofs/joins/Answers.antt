@@ -1,6 +1,5 @@
 -- `arms::joins` meets its contract. Assumes nothing.
 use borrow.Author.Tests.{eq-eqb, ne_eqb}
-use borrow.Author.Rules.{rules}
 use Rattle.arms.specs.Arms.{joins}
 use Rattle.arms.proofs.joins.Goals as goal
 

@@ -1,6 +1,5 @@
 -- `arms::resolved_wire_connection` meets its contract, by what the look-up finds. Assumes nothing.
 use mathlib.Core.Path.{sym, ◌∙◌}
-use borrow.Author.Rules.{rules}
 use Rattle.arms.specs.Arms.{resolved_wire_connection}
 use Rattle.arms.proofs.resolved_wire_connection.Goals as goal
 

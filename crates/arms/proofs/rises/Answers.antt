@@ -2,7 +2,6 @@
 use mathlib.Core.Path.{ap₂}
 use mathlib.Core.Bool.{not, ◌&&◌}
 use borrow.Author.Tests.{eq-eqb, ne_eqb}
-use borrow.Author.Rules.{rules}
 use Rattle.blocks.specs.Kind.{is_dust}
 use Rattle.arms.specs.Arms.{rises}
 use Rattle.arms.proofs.rises.Goals as goal

@@ -1,5 +1,4 @@
 -- `arms::wire_has_arm` meets its contract. Assumes nothing.
-use borrow.Author.Rules.{rules}
 use Rattle.arms.specs.Arms.{wire_has_arm}
 use Rattle.arms.proofs.wire_has_arm.Goals as goal
 

@@ -1,7 +1,6 @@
 -- `bulb::bulb_step` meets its contract. Assumes nothing.
 use borrow.Author.Tests.{eq-eqb, ne_eqb}
 use Rattle.bulb.specs.Step.{bulb_row}
-use borrow.Author.Rules.{rules}
 use Rattle.bulb.proofs.bulb_step.Goals as goal
 
 pub returns-then-kind_of-eq-COPPER_BULB : goal.returns-then-kind_of-eq-COPPER_BULB

@@ -1,6 +1,5 @@
 -- `bulb::next_bulb_light` meets its contract. Assumes nothing.
 use Rattle.bulb.specs.Step.{next_bulb_light}
-use borrow.Author.Rules.{rules}
 use Rattle.bulb.proofs.next_bulb_light.Goals as goal
 
 pub returns-then-power-had_power : goal.returns-then-power-had_power

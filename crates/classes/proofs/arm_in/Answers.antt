@@ -1,7 +1,6 @@
 -- `classes::arm_in` meets its contract. Assumes nothing.
-use borrow.Author.Rules.{rules}
 use Rattle.classes.proofs.Arms.{arm-bits}
 use Rattle.classes.proofs.arm_in.Goals as goal
 
 pub returns : goal.returns
-returns c = rw (arm-bits c.args.facing c.requires.0 c.requires.1)
+returns c = rw (arm-bits c.args.facing c.requires.le_facing c.requires.facing_bound)

@@ -1,5 +1,4 @@
 -- `comparator::level_at` meets its contract, by what was found. Assumes nothing.
-use borrow.Author.Rules.{rules}
 use Rattle.comparator.proofs.level_at.Goals as goal
 
 pub returns : goal.returns

@@ -1,6 +1,5 @@
 -- `comparator::next_comparator` meets its contract. Assumes nothing.
 use Rattle.comparator.specs.Step.{next_comparator}
-use borrow.Author.Rules.{rules}
 use Rattle.comparator.proofs.next_comparator.Goals as goal
 
 pub returns : goal.returns

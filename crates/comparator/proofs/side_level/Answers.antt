@@ -10,7 +10,6 @@ use Rattle.ports.specs.Ports.{first_side, second_side}
 use Rattle.ports.proofs.Sides.{by_sides}
 use Rattle.levels.specs.Numbers.{Numbers}
 use Rattle.comparator.specs.Step.{electrical_level, side_level}
-use borrow.Author.Rules.{rules}
 use Rattle.comparator.proofs.side_level.Goals as goal
 
 module _ (t : Bytes) (s : Numbers) (i : ℕ) where

@@ -1,7 +1,7 @@
 -- `connectivity::across` meets its contract: in each arm the number is one of the arm's, or none of them. Assumes nothing.
 use mathlib.Core.Path.{ap₂}
-use mathlib.Core.Logic.{⊎_elim, inl, inr}
-use borrow.Author.Rules.{rules}
+use mathlib.Core.Logic.{⊎_elim}
+use native.Mathlib.Omega.{arith}
 use borrow.Author.Tests.{ne_eqb}
 use Rattle.connectivity.specs.declared.Sides.TheVariants.{Both}
 use Rattle.connectivity.specs.Ports.{across}
@@ -19,5 +19,4 @@ returns-in-2 c = let both = ap₂ Both c.beside-in-2.ensures c.beside-in-2-2.ens
 
 pub returns-in_default : goal.returns-in_default
 unfolding across
-returns-in_default c = let none = c.in_default.in_default-own.rest in
-    simp (ne_eqb _ 1 (λ e. none.0.1 (inl e)), ne_eqb _ 3 (λ e. none.0.1 (inr e)), ne_eqb _ 2 (λ e. none.1 (inl e)), ne_eqb _ 4 (λ e. none.1 (inr e)))
+returns-in_default c = grind (arith, ne_eqb)

@@ -1,6 +1,5 @@
 -- `connectivity::ahead` meets its contract: a number outside North to West is no horizontal facing. Assumes nothing.
 use mathlib.Core.Path.{ap}
-use borrow.Author.Rules.{rules}
 use borrow.Author.Tests.{lt-leb, le-leb}
 use Rattle.places.specs.declared.Place.TheVariants.{There}
 use Rattle.places.specs.Places.{North, West}

@@ -1,5 +1,4 @@
 -- `connectivity::comparator_input_pos` meets its contract. Assumes nothing.
-use borrow.Author.Rules.{rules}
 use Rattle.connectivity.specs.Ports.{comparator_input_pos}
 use Rattle.connectivity.proofs.comparator_input_pos.Goals as goal
 

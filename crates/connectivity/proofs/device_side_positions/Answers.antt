@@ -1,6 +1,5 @@
 -- `connectivity::device_side_positions` meets its contract, by what the look-up finds. Assumes nothing.
 use mathlib.Core.Path.{sym, ◌∙◌}
-use borrow.Author.Rules.{rules}
 use Rattle.connectivity.specs.Ports.{device_side_positions}
 use Rattle.connectivity.proofs.device_side_positions.Goals as goal
 

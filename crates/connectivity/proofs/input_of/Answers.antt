@@ -1,6 +1,5 @@
 -- `connectivity::input_of` meets its contract: its facing is the opposite one. Assumes nothing.
 use mathlib.Core.Path.{ap, ap₂, ◌∙◌}
-use borrow.Author.Rules.{rules}
 use Rattle.places.specs.Places.{opposite}
 use Rattle.connectivity.specs.Ports.{ahead, input_of}
 use Rattle.connectivity.proofs.input_of.Goals as goal

@@ -1,6 +1,5 @@
 -- `connectivity::of_kind` meets its contract, by what the look-up finds. Assumes nothing.
 use mathlib.Core.Path.{sym, ◌∙◌}
-use borrow.Author.Rules.{rules}
 use borrow.Author.Tests.{eq-eqb, ne_eqb}
 use Rattle.connectivity.specs.Ports.{of_kind}
 use Rattle.connectivity.proofs.of_kind.Goals as goal

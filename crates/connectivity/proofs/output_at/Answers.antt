@@ -1,5 +1,4 @@
 -- `connectivity::output_at` meets its contract, by what was found. Assumes nothing.
-use borrow.Author.Rules.{rules}
 use Rattle.connectivity.proofs.output_at.Goals as goal
 
 pub returns-in-At : goal.returns-in-At

@@ -1,5 +1,4 @@
 -- `connectivity::output_of` meets its contract. Assumes nothing.
-use borrow.Author.Rules.{rules}
 use Rattle.connectivity.specs.Ports.{output_of}
 use Rattle.connectivity.proofs.output_of.Goals as goal
 

@@ -1,5 +1,4 @@
 -- `connectivity::repeater_input_pos` meets its contract. Assumes nothing.
-use borrow.Author.Rules.{rules}
 use Rattle.connectivity.specs.Ports.{repeater_input_pos}
 use Rattle.connectivity.proofs.repeater_input_pos.Goals as goal
 

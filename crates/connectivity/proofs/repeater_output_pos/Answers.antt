@@ -1,5 +1,4 @@
 -- `connectivity::repeater_output_pos` meets its contract. Assumes nothing.
-use borrow.Author.Rules.{rules}
 use Rattle.connectivity.specs.Ports.{repeater_output_pos}
 use Rattle.connectivity.proofs.repeater_output_pos.Goals as goal
 

@@ -1,5 +1,4 @@
 -- `connectivity::sides_of` meets its contract. Assumes nothing.
-use borrow.Author.Rules.{rules}
 use Rattle.connectivity.specs.Ports.{sides_of}
 use Rattle.connectivity.proofs.sides_of.Goals as goal
 

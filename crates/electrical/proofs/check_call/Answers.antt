@@ -2,7 +2,6 @@
 use Rattle.refusals.proofs.Passed.{also_after}
 use Rattle.refusals.specs.Check.{check_input}
 use Rattle.electrical.specs.Answer.{check_call}
-use borrow.Author.Rules.{rules}
 use Rattle.electrical.proofs.check_call.Goals as goal
 
 pub returns : goal.returns

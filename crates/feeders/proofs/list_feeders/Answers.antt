@@ -9,7 +9,7 @@ use Rattle.feeders.proofs.Fed.{Fed, fed_none, fed_room, fed_pass, fed_more, fed_
 use Rattle.feeders.proofs.list_feeders.Goals as goal
 
 pub loop-k-init : goal.loop-k-init
-loop-k-init c = fed_none c.requires.1
+loop-k-init c = fed_none c.requires.entries_len
 
 pub offset_bounds-entries-count : goal.offset_bounds-entries-count
 offset_bounds-entries-count c = omega (arith, fed_room c.loop-k.invariant (omega arith))

@@ -9,7 +9,7 @@ use Rattle.feeders.proofs.Fed.{blank, entries_none}
 use Rattle.feeders.proofs.write_entries.Goals as goal
 
 filled : (c : goal.After-fill) → c.fill.new.0 ≡ replicate 12 no_row
-filled c = rw c.requires.1 at c.fill.ensures ∙ blank
+filled c = rw c.requires.entries_len at c.fill.ensures ∙ blank
 
 pub returns-then-is_dust_in : goal.returns-then-is_dust_in
 unfolding entries_in
@@ -22,4 +22,4 @@ returns-else-is_dust_in c = let f = c in
     let start = f in
     let a = start.args in
     let other = rw c.class_at.ensures at (sym c.is_dust_in.ensures ∙ c.if-is_dust_in.false) in
-    filled f ∙ sym (entries_none a.near.now a.class.now a.row start.requires.0 other)
+    filled f ∙ sym (entries_none a.near.now a.class.now a.row start.requires.shaped other)

@@ -8,4 +8,4 @@ pub returns : goal.returns
 returns c = let x = c in
     let s = x in
     c.write_list.ensures
-    ∙ list_found s.args.profile.now s.args.table.now s.requires.0 x.prepare.ensures.0 x.prepare.ensures.1
+    ∙ list_found s.args.profile.now s.args.table.now s.requires.0 x.prepare.ensures.near x.prepare.ensures.class

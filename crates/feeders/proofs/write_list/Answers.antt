@@ -20,4 +20,4 @@ loop-i-preserved c = let l = c in
     (omega arith, row.auto.1.1.1.0 ∙ l.loop-i.invariant.1, rw row.ensures next)
 
 pub returns : goal.returns
-returns c = let l = c in written_all l.loop-i.invariant.2 _ (omega (arith, l.loop-i.invariant.0)) l.requires.1
+returns c = let l = c in written_all l.loop-i.invariant.2 _ (omega (arith, l.loop-i.invariant.0)) l.requires.list_len

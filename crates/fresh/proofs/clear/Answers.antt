@@ -1,9 +1,8 @@
 -- Answers of `fresh::clear`.
 use mathlib.Core.Path.{refl}
-use Prim.Native.Nat.{◌≤◌, ◌-◌}
 use native.Mathlib.Omega.{arith}
 use Rattle.columns.specs.Column.{tabulate_from}
-use Rattle.columns.proofs.Columns.{Filled, filled_none, filled_more, filled_all}
+use Rattle.columns.proofs.Columns.{filled_none, filled_more, filled_all}
 use Rattle.fresh.proofs.clear.Goals as goal
 
 pub loop-k-init : goal.loop-k-init

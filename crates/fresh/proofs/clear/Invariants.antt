@@ -1,9 +1,6 @@
 -- `fresh::clear` meets its contract. The loop's invariant: the bytes passed are 0. Assumes nothing.
-use mathlib.Core.Path.{refl}
 use Prim.Native.Nat.{◌≤◌, ◌-◌}
-use native.Mathlib.Omega.{arith}
-use Rattle.columns.specs.Column.{tabulate_from}
-use Rattle.columns.proofs.Columns.{Filled, filled_none, filled_more, filled_all}
+use Rattle.columns.proofs.Columns.{Filled}
 use Rattle.fresh.proofs.clear.Given as goal
 
 abbrev pub invariant-loop-k : goal.invariant-loop-k

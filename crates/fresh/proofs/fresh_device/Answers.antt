@@ -4,7 +4,6 @@ use mathlib.Core.Bool.{Bool, true, false, cond, not}
 use Prim.Native.Nat.{ℕ}
 use borrow.Author.Tests.{ne_eqb}
 use Rattle.fresh.specs.Fresh.{fresh_device}
-use borrow.Author.Rules.{rules}
 use Rattle.fresh.proofs.fresh_device.Goals as goal
 
 turned : (b : Bool) → ◌≡◌ {A = ℕ} (cond (not b) 1 0) (cond b 0 1)

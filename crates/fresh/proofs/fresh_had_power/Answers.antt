@@ -1,6 +1,5 @@
 -- `fresh::fresh_had_power` meets its contract. Assumes nothing.
 use Rattle.fresh.specs.Fresh.{fresh_had_power}
-use borrow.Author.Rules.{rules}
 use Rattle.fresh.proofs.fresh_had_power.Goals as goal
 
 pub returns : goal.returns

@@ -1,7 +1,6 @@
 -- `fresh::fresh_light` meets its contract. Assumes nothing.
 use borrow.Author.Tests.{ne_eqb}
 use Rattle.fresh.specs.Fresh.{fresh_light}
-use borrow.Author.Rules.{rules}
 use Rattle.fresh.proofs.fresh_light.Goals as goal
 
 pub returns-in-10 : goal.returns-in-10

@@ -7,7 +7,6 @@ use lib.Dec.{eqb}
 use lib.Pow.{pow_pos}
 use Rattle.fresh.specs.Fresh.{fresh_queue, fresh_device}
 use Rattle.states.proofs.Powers.{delay_range}
-use borrow.Author.Rules.{rules}
 use Rattle.fresh.proofs.fresh_queue.Goals as goal
 
 filled : (repeater powered : Bool) (x n : ℕ) → (repeater && powered) ≡ true → n ≡ cond repeater (cond repeater (cond powered 1 0) x * n) 0

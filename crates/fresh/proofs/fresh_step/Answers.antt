@@ -2,7 +2,6 @@
 use native.Mathlib.Omega.{arith}
 use lib.ListN.{length-set}
 use Rattle.fresh.specs.Fresh.{fresh_row}
-use borrow.Author.Rules.{rules}
 use Rattle.fresh.proofs.fresh_step.Goals as goal
 
 pub bounds-sixteen-2 : goal.bounds-sixteen-2

@@ -1,7 +1,6 @@
 -- `lamp::lamp_step` meets its contract. Assumes nothing.
 use borrow.Author.Tests.{eq-eqb, ne_eqb}
 use Rattle.lamp.specs.Step.{lamp_row}
-use borrow.Author.Rules.{rules}
 use Rattle.lamp.proofs.lamp_step.Goals as goal
 
 pub returns-then-kind_of-eq-REDSTONE_LAMP : goal.returns-then-kind_of-eq-REDSTONE_LAMP

@@ -1,7 +1,6 @@
 -- `lamp::next_left` meets its contract. Assumes nothing.
 use borrow.Author.Tests.{eq-eqb, ne_eqb}
 use Rattle.lamp.specs.Step.{next_left}
-use borrow.Author.Rules.{rules}
 use Rattle.lamp.proofs.next_left.Goals as goal
 
 pub returns-then-power-lit : goal.returns-then-power-lit

@@ -1,7 +1,6 @@
 -- `lines::levels` meets its contract. Assumes nothing.
 use mathlib.Core.List.{append_assoc}
 use native.Mathlib.Omega.{arith}
-use borrow.Author.Rules.{rules}
 use Rattle.text.proofs.Putting.{puts_then}
 use Rattle.lines.proofs.levels.Goals as goal
 
@@ -9,5 +8,5 @@ pub returns : goal.returns
 returns c = let third = c in
     let second = third in
     let first = second in
-    let p = puts_then (puts_then first.small_number-second.ensures.0 second.small_number-third.ensures.0) third.small_number.ensures.0 in
-    (simp append_assoc (simp append_assoc at p), omega (arith, first.small_number-second.ensures.1, second.small_number-third.ensures.1, third.small_number.ensures.1))
+    let p = puts_then (puts_then first.small_number-second.ensures.puts second.small_number-third.ensures.puts) third.small_number.ensures.puts in
+    record { puts = simp append_assoc (simp append_assoc at p); few = omega (arith, first.small_number-second.ensures.few, second.small_number-third.ensures.few, third.small_number.ensures.few) }

@@ -8,10 +8,6 @@ use Rattle.places.proofs.Signs.{back32}
 use Rattle.text.proofs.Putting.{puts_then}
 use Rattle.lines.proofs.place.Goals as goal
 
--- the coordinates of the position fit
-fits : (c : goal.Start) → SFits w32 c.args.q.x × SFits w32 c.args.q.y × SFits w32 c.args.q.z
-fits c = (search rules, search rules, search rules)
-
 pub returns : goal.returns
 returns c = let third = c in
     let second = third in
@@ -19,9 +15,9 @@ returns c = let third = c in
     let name = first in
     let s = name in
     let q = s.args.q in
-    let fit = fits s in
+    let fit : SFits w32 q.x × SFits w32 q.y × SFits w32 q.z = (search rules, search rules, search rules) in
     let x = first.signed-y.ensures in
     let y = second.signed-z.ensures in
     let z = third.signed.ensures in
-    let p = puts_then (puts_then (puts_then name.bytes-x.ensures x.0) y.0) z.0 in
-    (simp append_assoc (rw (← back32 q.x fit.0, ← back32 q.y fit.1, ← back32 q.z fit.2) (simp append_assoc at p)), omega (arith, name.bytes-x.ensures.end, x.1, y.1, z.1))
+    let p = puts_then (puts_then (puts_then name.bytes-x.ensures x.puts) y.puts) z.puts in
+    record { puts = simp append_assoc (rw (← back32 q.x fit.0, ← back32 q.y fit.1, ← back32 q.z fit.2) (simp append_assoc at p)); few = omega (arith, name.bytes-x.ensures.end, x.few, y.few, z.few) }

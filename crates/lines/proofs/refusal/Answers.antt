@@ -1,9 +1,8 @@
 -- `lines::refusal` meets its contract. Assumes nothing.
-use borrow.Author.Rules.{rules}
 use Rattle.lines.specs.Lines.{refusal_text}
 use Rattle.text.proofs.Putting.{puts_then}
 use Rattle.lines.proofs.refusal.Goals as goal
 
 pub returns : goal.returns
 unfolding refusal_text
-returns c = puts_then c.line-next.ensures.0 c.line.ensures.0
+returns c = puts_then c.line-next.ensures.puts c.line.ensures.puts

@@ -1,16 +1,10 @@
 -- `lines::rows` meets its contract. The loop's invariant: the lines of the first `i` rows are put. Assumes nothing.
-use mathlib.Core.Path.{◌≡◌, ap, ◌∙◌}
-use mathlib.Core.List.{◌++◌}
+use mathlib.Core.Path.{◌≡◌}
 use Prim.Native.Nat.{◌+◌, ◌*◌, ◌-◌, ◌≤◌}
-use native.Mathlib.Nat.{zero-add}
-use native.Mathlib.Omega.{arith}
-use borrow.Author.Rules.{rules}
-use Rattle.columns.specs.Column.{concat_rows_from, concat_rows}
-use Rattle.columns.proofs.Parts.{concat_rows_more}
+use Rattle.columns.specs.Column.{concat_rows}
 use Rattle.world.specs.Rows.{rows}
 use Rattle.text.specs.Put.{Puts}
 use Rattle.lines.specs.Lines.{row_of}
-use Rattle.text.proofs.Putting.{puts_none, puts_then, puts_length}
 use Rattle.lines.proofs.rows.Given as goal
 
 abbrev pub invariant-loop-i : goal.invariant-loop-i

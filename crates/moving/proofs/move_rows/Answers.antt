@@ -1,13 +1,13 @@
 -- Answers of `moving::move_rows`.
 use mathlib.Core.Path.{◌≡◌, refl, ap, ◌∙◌}
-use Prim.Native.Nat.{◌*◌, ◌+◌, ◌-◌, ◌≤◌, ◌<◌}
+use Prim.Native.Nat.{◌*◌, ◌+◌, ◌-◌, ◌<◌}
 use native.Mathlib.Omega.{arith}
 use lib.ListN.{length}
 use borrow.Author.Rules.{rules}
 use Rattle.columns.specs.Column.{part}
-use Rattle.columns.proofs.Parts.{length_part, Written, written_none, written_lent, written_more, written_all}
+use Rattle.columns.proofs.Parts.{length_part, written_none, written_lent, written_more, written_all}
 use Rattle.world.specs.Rows.{rows}
-use Rattle.moving.specs.Move.{moved_row, moved_table}
+use Rattle.moving.specs.Move.{moved_table}
 use Rattle.layout.proofs.Fields.{part_place}
 use Rattle.moving.proofs.Moved.{length_row, stays}
 use Rattle.moving.proofs.move_rows.Goals as goal
@@ -31,7 +31,7 @@ loop-i-preserved c = let l = c in
     let t = s.args.table.now in
     let w = l.loop-i.invariant.2 in
     let e : i * 32 + 32 - i * 32 ≡ 32 = omega arith in
-    let row = rw (e, written_lent w) at c.Move-row.ensures in
+    let row = rw (e, written_lent w) at c.move_row.ensures in
     let moved = written_more w row (ap length row ∙ length_row s.args.by (part 32 t i) (length_part 32 t i (omega arith))) in
     (omega arith, search rules, rw e moved)
 

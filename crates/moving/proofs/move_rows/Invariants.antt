@@ -1,15 +1,10 @@
 -- `moving::move_rows` meets its contract. The loop's invariant: the first i rows are moved and the rest is as it was. Assumes nothing.
-use mathlib.Core.Path.{◌≡◌, refl, ap, ◌∙◌}
-use Prim.Native.Nat.{◌*◌, ◌+◌, ◌-◌, ◌≤◌, ◌<◌}
-use native.Mathlib.Omega.{arith}
+use mathlib.Core.Path.{◌≡◌}
+use Prim.Native.Nat.{◌-◌, ◌≤◌}
 use lib.ListN.{length}
-use borrow.Author.Rules.{rules}
 use Rattle.columns.specs.Column.{part}
-use Rattle.columns.proofs.Parts.{length_part, Written, written_none, written_lent, written_more, written_all}
-use Rattle.world.specs.Rows.{rows}
-use Rattle.moving.specs.Move.{moved_row, moved_table}
-use Rattle.layout.proofs.Fields.{part_place}
-use Rattle.moving.proofs.Moved.{length_row, stays}
+use Rattle.columns.proofs.Parts.{Written}
+use Rattle.moving.specs.Move.{moved_row}
 use Rattle.moving.proofs.move_rows.Given as goal
 
 abbrev pub invariant-loop-i : goal.invariant-loop-i

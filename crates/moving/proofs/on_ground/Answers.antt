@@ -1,6 +1,5 @@
 -- `moving::on_ground` meets its contract. Assumes nothing.
 use mathlib.Core.Path.{sym, ◌∙◌}
-use borrow.Author.Rules.{rules}
 use Rattle.moving.specs.Move.{on_ground}
 use Rattle.moving.proofs.on_ground.Goals as goal
 

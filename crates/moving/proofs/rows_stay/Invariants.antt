@@ -1,18 +1,11 @@
 -- `moving::rows_stay` meets its contract. The loop's invariant: the rows passed stay in range. Assumes nothing.
-use borrow.Author.Rules.{rules}
-use mathlib.Core.Path.{◌≡◌, refl, sym, ◌∙◌}
+use mathlib.Core.Path.{◌≡◌}
 use mathlib.Core.Bool.{true}
-use Prim.Native.Nat.{◌-◌, ◌≤◌, ◌<◌}
-use native.Mathlib.Omega.{arith}
-use mir.Syntax.{w32}
-use mir.Val.{SFits}
+use Prim.Native.Nat.{◌-◌, ◌≤◌}
 use Rattle.columns.specs.First.{all_below}
-use Rattle.columns.proofs.First.{all_more, all_fails}
-use Rattle.places.proofs.Signs.{back32}
-use Rattle.world.specs.Rows.{rows, pos_of}
+use Rattle.world.specs.Rows.{pos_of}
 use Rattle.layout.specs.Good.{good_place}
 use Rattle.moving.specs.Move.{moved_by}
-use Rattle.moving.proofs.Offsets.{offset_place}
 use Rattle.moving.proofs.rows_stay.Given as goal
 
 abbrev pub invariant-loop-i : goal.invariant-loop-i

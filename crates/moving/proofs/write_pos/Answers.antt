@@ -7,21 +7,11 @@ use Rattle.moving.specs.Move.{bits32, pos_bytes}
 use Rattle.moving.proofs.Words.{words_written}
 use Rattle.moving.proofs.write_pos.Goals as goal
 
--- the coordinates fit 32 bits
-fits-x : (s : goal.Start) → SFits w32 s.args.q.x
-fits-x s = search rules
-
-fits-y : (s : goal.Start) → SFits w32 s.args.q.y
-fits-y s = search rules
-
-fits-z : (s : goal.Start) → SFits w32 s.args.q.z
-fits-z s = search rules
-
 pub returns : goal.returns
 unfolding pos_bytes
-returns c = let third = c in
-    let second = third in
-    let first = second in
-    let s = first in
-    rw (third.write_word-3.ensures, second.write_word-2.ensures, first.write_word.ensures, third.bits-3.ensures, second.bits-2.ensures, first.bits.ensures, back32 _ (fits-x s), back32 _ (fits-y s), back32 _ (fits-z s))
-    (words_written (bits32 s.args.q.x) (bits32 s.args.q.y) (bits32 s.args.q.z) s.args.bytes.now s.requires)
+returns c =
+    let fx : SFits w32 c.args.q.x = search rules in
+    let fy : SFits w32 c.args.q.y = search rules in
+    let fz : SFits w32 c.args.q.z = search rules in
+    rw (c.write_word-3.ensures, c.write_word-2.ensures, c.write_word.ensures, c.bits-3.ensures, c.bits-2.ensures, c.bits.ensures, back32 _ fx, back32 _ fy, back32 _ fz)
+    (words_written (bits32 c.args.q.x) (bits32 c.args.q.y) (bits32 c.args.q.z) c.args.bytes.now c.requires)

@@ -40,10 +40,10 @@ pub record Arrives (k x y : ℕ) : Type 0 where
 pub arrives_none : (k : ℕ) → Arrives k 0 0
 arrives_none k = omega arith
 
-arrives_start : (x : ℕ) → 17 * level_of x ≤ x + 15 → Arrives 0 x 0
+pub arrives_start : (x : ℕ) → 17 * level_of x ≤ x + 15 → Arrives 0 x 0
 arrives_start x h = omega arith
 
-arrives_own : (k d : ℕ) → d ≤ 15 → Arrives (suc k) (16 * d) d
+pub arrives_own : (k d : ℕ) → d ≤ 15 → Arrives (suc k) (16 * d) d
 arrives_own k d h = omega arith
 
 -- one hop more
@@ -51,7 +51,7 @@ less_down : (k w y : ℕ) → 1 ≤ w → 17 * level_of (w + 17) ≤ w + 17 + 15
     → level_of w ≤ y + 15 * (1 - ((w + suc k) - 16 * level_of w))
 less_down k w y l f h = omega arith
 
-arrives_less : (k x y : ℕ) → Arrives k x y → Arrives (suc k) (x - 17) (y - 1)
+pub arrives_less : (k x y : ℕ) → Arrives k x y → Arrives (suc k) (x - 17) (y - 1)
 arrives_less k x y h = by_cases (dec_le x 17) low high
   where
     low : x ≤ 17 → Arrives (suc k) (x - 17) (y - 1)
@@ -67,7 +67,7 @@ arrives_less k x y h = by_cases (dec_le x 17) low high
             let u : 16 * y ≤ w + 17 + k - 1 = rw e at h.up in
             record { up = omega (arith, u); down = less_down k w (y - 1) l f (omega (arith, d)); fits = omega (arith, f) }
 
-arrives_capped : (k x y : ℕ) → Arrives k x y → Arrives k x (min 15 y)
+pub arrives_capped : (k x y : ℕ) → Arrives k x y → Arrives k x (min 15 y)
 arrives_capped k x y h = omega arith
 
 pub arrives_most : (k a p b q : ℕ) → Arrives k a p → Arrives k b q → Arrives k (max a b) (max p q)
@@ -130,7 +130,7 @@ pub record OnDust (N : Network) : Type 0 where
   pub dust_to_weak : (j i : ℕ) → N.dust_to_weak j i ≡ true → N.dust j ≡ true
 
 module _ (N : Network) (e : Column) where
-  open N use {size, dust, transmits, emitted_to_dust, strong_to_dust}
+  open N use {size, dust, strong_to_weak, dust_to_weak, transmits, emitted_to_dust, strong_to_dust}
 
   -- the direct level, capped
   abbrev pub own : ℕ → ℕ
@@ -143,7 +143,7 @@ module _ (N : Network) (e : Column) where
     pub bare : (i : ℕ) → i < size → dust i ≡ false → row x i ≡ 0
 
 module _ (N : Network) (o : OnDust N) (e x : Column) (h : Keys N e x) where
-  open N use {size, dust, transmits}
+  open N use {size, dust, strong_to_weak, dust_to_weak, transmits, emitted_to_dust, strong_to_dust}
 
   fits_by : (m i : ℕ) → i < size → dust i ≡ true → Fits m (row x i)
   fits_by zero i l d = fits_byte _ (h.byte i)

@@ -17,3 +17,8 @@ pub top_same : (n : ℕ) (f g : ℕ → ℕ) → ((k : ℕ) → k < n → f k �
 unfolding top
 top_same zero f g h = refl
 top_same (suc n) f g h = rw (top_same n f g (λ k l. h k (omega arith)), h n (le_refl _))
+
+pub top_less : (n : ℕ) (f : ℕ → ℕ) → top n (λ k. f k - 1) ≡ top n f - 1
+unfolding top
+top_less zero f = refl
+top_less (suc n) f = rw (top_less n f) (omega arith)

@@ -1,6 +1,5 @@
 -- `ports::first_side_row` meets its contract. Assumes nothing.
 use Rattle.ports.specs.Ports.{first_side}
-use borrow.Author.Rules.{rules}
 use Rattle.ports.proofs.first_side_row.Goals as goal
 
 pub returns : goal.returns

@@ -1,6 +1,5 @@
 -- `ports::input_row` meets its contract. Assumes nothing.
 use Rattle.connectivity.specs.Ports.{input_of}
-use borrow.Author.Rules.{rules}
 use Rattle.ports.proofs.input_row.Goals as goal
 
 pub returns : goal.returns

@@ -1,6 +1,5 @@
 -- `ports::output_row` meets its contract. Assumes nothing.
 use Rattle.connectivity.specs.Ports.{output_of}
-use borrow.Author.Rules.{rules}
 use Rattle.ports.proofs.output_row.Goals as goal
 
 pub returns : goal.returns

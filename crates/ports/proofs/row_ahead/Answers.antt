@@ -7,7 +7,6 @@ use borrow.Author.Tests.{le-leb, lt-leb, lt-ltb}
 use Rattle.places.specs.Places.{North, West}
 use Rattle.connectivity.specs.Ports.{ahead}
 use Rattle.adjacency.specs.Adjacency.{place_by}
-use borrow.Author.Rules.{rules}
 use Rattle.ports.proofs.row_ahead.Goals as goal
 
 pub returns-then-code-lt-NORTH : goal.returns-then-code-lt-NORTH

@@ -2,7 +2,6 @@
 use mathlib.Core.Path.{◌∙◌}
 use native.Mathlib.Omega.{arith}
 use Rattle.ports.proofs.Near.{near_inside, near_found}
-use borrow.Author.Rules.{rules}
 use Rattle.ports.proofs.row_by.Goals as goal
 
 pub overflow_mul-place : goal.overflow_mul-place

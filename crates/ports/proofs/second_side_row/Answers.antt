@@ -1,6 +1,5 @@
 -- `ports::second_side_row` meets its contract. Assumes nothing.
 use Rattle.ports.specs.Ports.{second_side}
-use borrow.Author.Rules.{rules}
 use Rattle.ports.proofs.second_side_row.Goals as goal
 
 pub returns : goal.returns

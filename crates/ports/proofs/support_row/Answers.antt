@@ -1,6 +1,5 @@
 -- `ports::support_row` meets its contract. Assumes nothing.
 use Rattle.adjacency.specs.Adjacency.{place_by}
-use borrow.Author.Rules.{rules}
 use Rattle.ports.proofs.support_row.Goals as goal
 
 pub returns : goal.returns

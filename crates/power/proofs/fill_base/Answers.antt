@@ -2,7 +2,6 @@
 use Rattle.circuit.specs.Circuit.{circuit}
 use Rattle.power.specs.Power.{base_of}
 use Rattle.power.proofs.Spreading.{spread_zeros}
-use borrow.Author.Rules.{rules}
 use Rattle.power.proofs.fill_base.Goals as goal
 
 pub returns : goal.returns

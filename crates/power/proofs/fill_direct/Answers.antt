@@ -3,7 +3,6 @@ use mathlib.Core.Path.{refl}
 use Rattle.circuit.specs.Circuit.{circuit}
 use Rattle.power.specs.Power.{direct_of}
 use Rattle.power.proofs.Spreading.{spread_over, spread_zeros}
-use borrow.Author.Rules.{rules}
 use Rattle.power.proofs.fill_direct.Goals as goal
 
 pub returns : goal.returns

@@ -1,5 +1,4 @@
 -- `power::fill_power` meets its contract. Assumes nothing.
-use borrow.Author.Rules.{rules}
 use Rattle.power.proofs.fill_power.Goals as goal
 
 pub returns : goal.returns

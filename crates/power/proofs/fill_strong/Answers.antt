@@ -2,7 +2,6 @@
 use Rattle.network.specs.Network.{strong_of}
 use Rattle.circuit.specs.Circuit.{circuit}
 use Rattle.power.proofs.Spreading.{spread_zeros}
-use borrow.Author.Rules.{rules}
 use Rattle.power.proofs.fill_strong.Goals as goal
 
 pub returns : goal.returns

@@ -1,13 +1,11 @@
 -- Answers of `power::none_mapped`.
-use borrow.Author.Rules.{rules}
 use mathlib.Core.Path.{◌≡◌, sym}
-use mathlib.Core.Bool.{Bool, true, false, not, ◌||◌}
-use Prim.Native.Nat.{ℕ, ◌-◌, ◌≤◌, ◌<◌}
+use mathlib.Core.Bool.{true, false, ◌||◌}
 use native.Mathlib.Omega.{arith}
 use native.Mathlib.Nat.{not-suc-le-zero}
 use lib.ListN.{length}
 use borrow.Author.Count.{below_more}
-use Rattle.columns.specs.Column.{Column, row}
+use Rattle.columns.specs.Column.{row}
 use Rattle.columns.proofs.First.{at_all, all_fails}
 use Rattle.classes.specs.Class.{weak_in, strong_in}
 use Rattle.power.specs.Power.{none_mapped}

@@ -1,16 +1,10 @@
 -- `power::none_mapped` meets its contract. The loop's invariant: none of the first i rows receives power. Assumes nothing.
-use borrow.Author.Rules.{rules}
-use mathlib.Core.Path.{◌≡◌, sym}
-use mathlib.Core.Bool.{Bool, true, false, not, ◌||◌}
+use mathlib.Core.Path.{◌≡◌}
+use mathlib.Core.Bool.{Bool, true, not, ◌||◌}
 use Prim.Native.Nat.{ℕ, ◌-◌, ◌≤◌, ◌<◌}
-use native.Mathlib.Omega.{arith}
-use native.Mathlib.Nat.{not-suc-le-zero}
 use lib.ListN.{length}
-use borrow.Author.Count.{below_more}
 use Rattle.columns.specs.Column.{Column, row}
-use Rattle.columns.proofs.First.{at_all, all_fails}
 use Rattle.classes.specs.Class.{weak_in, strong_in}
-use Rattle.power.specs.Power.{none_mapped}
 use Rattle.power.proofs.none_mapped.Given as goal
 
 abbrev pub receives_none : Column → ℕ → Bool

@@ -1,6 +1,5 @@
 -- `records::columns_agree` meets its contract. Assumes nothing.
 use Rattle.records.specs.Record.{columns_agree}
-use borrow.Author.Rules.{rules}
 use Rattle.records.proofs.columns_agree.Goals as goal
 
 pub returns : goal.returns

@@ -1,11 +1,7 @@
 -- Answers of `records::copied`.
 use mathlib.Core.Path.{refl}
-use Prim.Native.Nat.{◌-◌, ◌≤◌}
 use native.Mathlib.Omega.{arith}
-use Rattle.columns.specs.Column.{row}
-use Rattle.columns.proofs.Columns.{Filled, filled_none, filled_more, filled_all}
-use borrow.Author.Rules.{rules}
-use Rattle.records.specs.Record.{most_bytes}
+use Rattle.columns.proofs.Columns.{filled_none, filled_more, filled_all}
 use Rattle.records.proofs.copied.Goals as goal
 
 pub loop-i-init : goal.loop-i-init

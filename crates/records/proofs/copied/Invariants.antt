@@ -1,10 +1,7 @@
 -- `records::copied` meets its contract. The loop's invariant: the first i bytes are copied. Assumes nothing.
-use mathlib.Core.Path.{refl}
 use Prim.Native.Nat.{◌-◌, ◌≤◌}
-use native.Mathlib.Omega.{arith}
 use Rattle.columns.specs.Column.{row}
-use Rattle.columns.proofs.Columns.{Filled, filled_none, filled_more, filled_all}
-use borrow.Author.Rules.{rules}
+use Rattle.columns.proofs.Columns.{Filled}
 use Rattle.records.specs.Record.{most_bytes}
 use Rattle.records.proofs.copied.Given as goal
 

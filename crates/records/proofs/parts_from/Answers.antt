@@ -1,10 +1,9 @@
 -- Answers of `records::parts_from`.
 use mathlib.Core.Path.{◌≡◌, refl}
-use Prim.Native.Nat.{◌+◌, ◌*◌, ◌-◌, ◌≤◌}
+use Prim.Native.Nat.{◌+◌}
 use native.Mathlib.Numerals.{add-one}
 use native.Mathlib.Omega.{arith}
 use lib.ListN.{drop}
-use borrow.Author.Rules.{rules}
 use Rattle.words.specs.Words.{half}
 use Rattle.records.specs.Record.{parts_from}
 use Rattle.records.proofs.parts_from.Goals as goal

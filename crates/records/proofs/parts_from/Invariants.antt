@@ -1,12 +1,7 @@
 -- `records::parts_from` meets its contract. The loop's invariant: `at` is where the record goes on after k slices,
 -- each of which takes at most 65,537 bytes. Assumes nothing.
-use mathlib.Core.Path.{◌≡◌, refl}
+use mathlib.Core.Path.{◌≡◌}
 use Prim.Native.Nat.{◌+◌, ◌*◌, ◌-◌, ◌≤◌}
-use native.Mathlib.Numerals.{add-one}
-use native.Mathlib.Omega.{arith}
-use lib.ListN.{drop}
-use borrow.Author.Rules.{rules}
-use Rattle.words.specs.Words.{half}
 use Rattle.records.specs.Record.{parts_from}
 use Rattle.records.proofs.parts_from.Given as goal
 

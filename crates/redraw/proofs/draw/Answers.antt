@@ -2,7 +2,6 @@
 use mathlib.Core.Path.{refl}
 use native.Mathlib.Omega.{arith}
 use lib.ListN.{length-set}
-use borrow.Author.Rules.{rules}
 use Rattle.redrawing.specs.Drawn.{drawn}
 use Rattle.redraw.proofs.draw.Goals as goal
 

@@ -1,5 +1,4 @@
 -- `redraw::entries_of` meets its contract. Assumes nothing.
-use borrow.Author.Rules.{rules}
 use Rattle.redrawing.specs.Drawn.{entries_of}
 use Rattle.redraw.proofs.entries_of.Goals as goal
 

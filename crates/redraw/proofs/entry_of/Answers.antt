@@ -1,6 +1,5 @@
 -- `redraw::entry_of` meets its contract. Assumes nothing.
 use borrow.Author.Tests.{eq-eqb, ne_eqb}
-use borrow.Author.Rules.{rules}
 use Rattle.redrawing.specs.Drawn.{entry_of}
 use Rattle.redraw.proofs.entry_of.Goals as goal
 

@@ -4,7 +4,6 @@ use Prim.Native.Nat.{◌+◌, ◌*◌, ◌-◌}
 use native.Mathlib.Omega.{arith}
 use borrow.Author.Tests.{eq-eqb, ne_eqb}
 use borrow.Rule.Slice.PartMut.{put_mid, put_same}
-use borrow.Author.Rules.{rules}
 use Rattle.columns.specs.Column.{part}
 use Rattle.redrawing.specs.Drawn.{with_opposite, drawn, redrawn_row}
 use Rattle.redraw.proofs.redraw_row.Goals as goal
@@ -16,12 +15,11 @@ returns-then-kind_of-ne-REDSTONE_WIRE c = let a = c.args in
 
 pub returns : goal.returns
 unfolding redrawn_row
-returns c = let entries = c in
-    let test = entries in
-    let a = test.args in
+returns c =
+    let a = c.args in
     let i = a.row in
-    let t = a.table-1.now in
+    let t = a.table.now in
     let e : i * 32 + 32 - i * 32 ≡ 32 = omega arith in
-    let arms = c.with_opposite-arms.ensures ∙ ap with_opposite entries.entries_of.ensures in
+    let arms = c.with_opposite-arms.ensures ∙ ap with_opposite c.entries_of.ensures in
     let row = rw e at c.draw.ensures in
-    rw (eq-eqb _ 3 (sym test.kind_of.ensures ∙ test.if-kind_of-ne-REDSTONE_WIRE.false), e) (ap (put_mid (i * 32) 32 t) (row ∙ ap (drawn (part 32 t i)) arms))
+    rw (eq-eqb _ 3 (sym c.kind_of.ensures ∙ c.if-kind_of-ne-REDSTONE_WIRE.false), e) (ap (put_mid (i * 32) 32 t) (row ∙ ap (drawn (part 32 t i)) arms))

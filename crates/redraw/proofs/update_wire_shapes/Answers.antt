@@ -1,6 +1,5 @@
 -- `redraw::update_wire_shapes` meets its contract, by what the checks answer. Assumes nothing.
 use mathlib.Core.Path.{sym, ◌∙◌}
-use borrow.Author.Rules.{rules}
 use Rattle.refusals.proofs.Accepted.{accepted_input}
 use Rattle.redraw.proofs.update_wire_shapes.Goals as goal
 

@@ -1,5 +1,4 @@
 -- `redraw::with_opposite` meets its contract. Assumes nothing.
-use borrow.Author.Rules.{rules}
 use Rattle.redrawing.specs.Drawn.{with_opposite}
 use Rattle.redraw.proofs.with_opposite.Goals as goal
 

@@ -10,7 +10,6 @@ use Rattle.ports.specs.Ports.{first_side, second_side}
 use Rattle.ports.proofs.Near.{found_inside}
 use Rattle.ports.proofs.Sides.{by_sides}
 use Rattle.repeater.specs.Step.{locks, locks_from, locked_by, is_locked}
-use borrow.Author.Rules.{rules}
 use Rattle.repeater.proofs.is_locked.Goals as goal
 
 module _ (t : Bytes) (d : Column) (i : ℕ) where

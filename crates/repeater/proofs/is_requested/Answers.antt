@@ -1,7 +1,6 @@
 -- `repeater::is_requested` meets its contract, by what the look-up finds. Assumes nothing.
 use mathlib.Core.Path.{sym, ◌∙◌}
 use Rattle.repeater.specs.Step.{is_requested}
-use borrow.Author.Rules.{rules}
 use Rattle.repeater.proofs.is_requested.Goals as goal
 
 pub returns-in_default : goal.returns-in_default

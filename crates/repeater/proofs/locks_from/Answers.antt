@@ -1,5 +1,4 @@
 -- `repeater::locks_from` meets its contract, by what was found. Assumes nothing.
-use borrow.Author.Rules.{rules}
 use Rattle.repeater.proofs.locks_from.Goals as goal
 
 pub outputs_into-requires : goal.outputs_into-requires

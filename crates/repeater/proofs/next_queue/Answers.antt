@@ -1,7 +1,6 @@
 -- `repeater::next_queue` meets its contract. Assumes nothing.
 use native.Mathlib.Omega.{arith}
 use Rattle.repeater.specs.Step.{next_queue}
-use borrow.Author.Rules.{rules}
 use Rattle.repeater.proofs.next_queue.Goals as goal
 
 pub returns-then-requested : goal.returns-then-requested

@@ -6,7 +6,6 @@ use Rattle.blocks.specs.Kind.{is_diode}
 use Rattle.world.specs.Rows.{kind_of}
 use Rattle.edges.specs.Edges.{outputs_to}
 use Rattle.ports.proofs.Near.{stands_found}
-use borrow.Author.Rules.{rules}
 use Rattle.repeater.proofs.outputs_into.Goals as goal
 
 pub returns-in_default : goal.returns-in_default

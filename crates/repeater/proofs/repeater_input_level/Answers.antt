@@ -2,7 +2,6 @@
 use mathlib.Core.Path.{sym, ◌∙◌, ap}
 use Rattle.blocks.specs.Profile.{properties_of}
 use Rattle.repeater.specs.Step.{repeater_input_level}
-use borrow.Author.Rules.{rules}
 use Rattle.repeater.proofs.repeater_input_level.Goals as goal
 
 pub returns-then-properties : goal.returns-then-properties

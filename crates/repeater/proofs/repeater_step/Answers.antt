@@ -2,7 +2,6 @@
 use mathlib.Core.Path.{sym, ◌∙◌}
 use Rattle.repeater.specs.Step.{repeater_row}
 use Rattle.states.proofs.Powers.{delay_range}
-use borrow.Author.Rules.{rules}
 use Rattle.repeater.proofs.repeater_step.Goals as goal
 
 pub returns-then-is_locked : goal.returns-then-is_locked

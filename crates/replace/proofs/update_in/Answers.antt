@@ -9,4 +9,4 @@ returns c = let x = c in
     let s = x in
     let a = s.args in
     c.update_rows.ensures
-    ∙ updated_found a.profile.now a.table.now s.requires.0 a.n a.list-1.now s.requires.3 x.prepare.ensures.0 x.prepare.ensures.1
+    ∙ updated_found a.profile.now a.table.now s.requires.0 a.n a.list-1.now s.requires.3 x.prepare.ensures.near x.prepare.ensures.class

@@ -1,5 +1,4 @@
 -- `round::answers` meets its contract. Assumes nothing.
-use borrow.Author.Rules.{rules}
 use Rattle.round.proofs.answers.Goals as goal
 
 pub returns : goal.returns

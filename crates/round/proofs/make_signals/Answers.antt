@@ -1,16 +1,9 @@
 -- Answers of `round::make_signals`.
-use mathlib.Core.Bool.{cond}
-use Prim.Native.Nat.{◌-◌, min}
 use native.Mathlib.Omega.{arith}
-use lib.ListN.{length}
 use borrow.Author.Rules.{rules}
-use Rattle.columns.specs.Column.{row}
-use Rattle.columns.specs.Signal.{max_signal}
 use Rattle.columns.proofs.Columns.{filled_all}
-use Rattle.blocks.specs.Kind.{is_dust}
-use Rattle.classes.specs.Class.{kind_in}
 use Rattle.circuit.specs.Circuit.{signals_in}
-use Rattle.round.proofs.InPlace.{Changed, changed_none, changed_more}
+use Rattle.round.proofs.InPlace.{changed_none, changed_more}
 use Rattle.round.proofs.make_signals.Goals as goal
 
 pub loop-i-init : goal.loop-i-init

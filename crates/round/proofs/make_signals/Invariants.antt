@@ -1,16 +1,12 @@
 -- `round::make_signals` meets its contract. The loop's invariant: the first i rows are signals, the others are levels yet. Assumes nothing.
 use mathlib.Core.Bool.{cond}
 use Prim.Native.Nat.{◌-◌, min}
-use native.Mathlib.Omega.{arith}
 use lib.ListN.{length}
-use borrow.Author.Rules.{rules}
 use Rattle.columns.specs.Column.{row}
 use Rattle.columns.specs.Signal.{max_signal}
-use Rattle.columns.proofs.Columns.{filled_all}
 use Rattle.blocks.specs.Kind.{is_dust}
 use Rattle.classes.specs.Class.{kind_in}
-use Rattle.circuit.specs.Circuit.{signals_in}
-use Rattle.round.proofs.InPlace.{Changed, changed_none, changed_more}
+use Rattle.round.proofs.InPlace.{Changed}
 use Rattle.round.proofs.make_signals.Given as goal
 
 abbrev pub invariant-loop-i : goal.invariant-loop-i

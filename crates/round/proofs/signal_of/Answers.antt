@@ -1,7 +1,6 @@
 -- `round::signal_of` meets its contract. Assumes nothing.
 use mathlib.Core.Path.{◌≡◌, sym, ◌∙◌}
 use mathlib.Core.Bool.{true, false}
-use borrow.Author.Rules.{rules}
 use Rattle.blocks.specs.Kind.{is_dust}
 use Rattle.classes.specs.Class.{kind_in}
 use Rattle.round.proofs.signal_of.Goals as goal

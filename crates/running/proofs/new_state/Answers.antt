@@ -1,30 +1,20 @@
 -- `running::new_state` meets its contract. Assumes nothing.
-use Rattle.refusals.specs.Accepted.{Table}
 use Rattle.refusals.proofs.Accepted.{accepted_input}
 use Rattle.running.proofs.Running.{few_near, near_front, few_class, class_front, room}
 use borrow.Author.Rules.{rules}
 use Rattle.running.proofs.new_state.Goals as goal
 
--- where the call starts, from where its rows are counted
-abbrev begun : (c : goal.After-rows-n) → goal.Start
-begun c = c
-
-accepted : (c : goal.After-rows-n) → Table (begun c).args.table.now
-accepted c = let start = begun c in (accepted_input _ _ start.pre.0).1
-
 pub slice_bounds-near-end : goal.slice_bounds-near-end
-slice_bounds-near-end c = few_near (accepted c) c.rows-n.ensures
+slice_bounds-near-end c = few_near (accepted_input _ _ c.requires.0).1 c.rows-n.ensures
 
 pub slice_bounds-new_state_in-end : goal.slice_bounds-new_state_in-end
-slice_bounds-new_state_in-end c = near_front (accepted c) c.rows-n.ensures
+slice_bounds-new_state_in-end c = near_front (accepted_input _ _ c.requires.0).1 c.rows-n.ensures
 
 pub slice_bounds-class-end : goal.slice_bounds-class-end
-slice_bounds-class-end c = few_class (accepted c) c.rows-n.ensures
+slice_bounds-class-end c = few_class (accepted_input _ _ c.requires.0).1 c.rows-n.ensures
 
 pub slice_bounds-new_state_in-end-2 : goal.slice_bounds-new_state_in-end-2
-slice_bounds-new_state_in-end-2 c = class_front (accepted c) c.rows-n.ensures
+slice_bounds-new_state_in-end-2 c = class_front (accepted_input _ _ c.requires.0).1 c.rows-n.ensures
 
 pub new_state_in-requires : goal.new_state_in-requires
-new_state_in-requires c = let after = c in
-    let start = begun after in
-    (start.pre.0, start.pre.1, start.pre.2, room (accepted after) after.rows-n.ensures)
+new_state_in-requires c = (c.requires.0, c.requires.1, c.requires.2, room (accepted_input _ _ c.requires.0).1 c.rows-n.ensures)

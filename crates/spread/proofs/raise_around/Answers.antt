@@ -21,4 +21,4 @@ loop-f-preserved c = let third = c in
     (rw lower.lower_sink-below.ensures at third.raise-in-loop-f-2.ensures)
 
 pub returns : goal.returns
-returns c = around_spread c.loop-f.invariant (omega arith) c.requires.1
+returns c = around_spread c.loop-f.invariant (omega arith) c.requires.out_len

@@ -14,4 +14,4 @@ loop-k-preserved c = let turn = c in
     raised_more turn.loop-k.invariant (omega arith) (rw (← turn.sink_of.ensures) turn.raise.ensures)
 
 pub returns : goal.returns
-returns c = raised_all c.loop-k.invariant (omega arith) c.requires.1
+returns c = raised_all c.loop-k.invariant (omega arith) c.requires.out_len

@@ -9,4 +9,4 @@ pub returns-else-sends_in : goal.returns-else-sends_in
 returns-else-sends_in c = let start = c in
     let a = start.args in
     spread_nowhere a.edge a.near.now a.class.now a.j a.level a.out.now
-    (λ i. none_sent start.requires.0 a.edge a.j i (rw (← c.class_at.ensures) (sym c.sends_in.ensures ∙ c.if-sends_in.false)))
+    (λ i. none_sent start.requires.shaped a.edge a.j i (rw (← c.class_at.ensures) (sym c.sends_in.ensures ∙ c.if-sends_in.false)))

@@ -1,5 +1,4 @@
 -- `streams::front_of` meets its contract. Assumes nothing.
-use borrow.Author.Rules.{rules}
 use borrow.Author.Tests.{eq-eqb, ne_eqb}
 use Rattle.streams.proofs.front_of.Goals as goal
 

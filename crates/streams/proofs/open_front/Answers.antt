@@ -1,5 +1,4 @@
 -- `streams::open_front` meets its contract: the tests of the definition, one after the other. Assumes nothing.
-use borrow.Author.Rules.{rules}
 use borrow.Author.Tests.{eq-eqb, ne_eqb, lt-ltb, le-ltb}
 use Rattle.streams.proofs.open_front.Goals as goal
 

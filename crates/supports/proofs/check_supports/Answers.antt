@@ -1,6 +1,5 @@
 -- `supports::check_supports` meets its contract. Assumes nothing.
 use Rattle.supports.specs.Supports.{check_supports}
-use borrow.Author.Rules.{rules}
 use Rattle.supports.proofs.check_supports.Goals as goal
 
 pub returns : goal.returns

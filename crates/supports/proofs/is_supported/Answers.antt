@@ -1,7 +1,6 @@
 -- `supports::is_supported` meets its contract, by the row that is found. Assumes nothing.
 use mathlib.Core.Path.{sym, ◌∙◌}
 use Rattle.supports.proofs.Rows.{supported_found}
-use borrow.Author.Rules.{rules}
 use Rattle.supports.proofs.is_supported.Goals as goal
 
 pub returns-in-At : goal.returns-in-At

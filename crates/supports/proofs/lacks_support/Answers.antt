@@ -1,6 +1,5 @@
 -- `supports::lacks_support` meets its contract. Assumes nothing.
 use Rattle.supports.specs.Supports.{lacks_support}
-use borrow.Author.Rules.{rules}
 use Rattle.supports.proofs.lacks_support.Goals as goal
 
 pub returns : goal.returns

@@ -1,14 +1,12 @@
 -- Answers of `supports::list_issues`.
-use borrow.Author.Rules.{rules}
 use mathlib.Core.Path.{◌≡◌, refl, sym, ◌∙◌}
-use mathlib.Core.Logic.{⊎_elim}
-use Prim.Native.Nat.{◌≤◌, ◌-◌}
 use native.Mathlib.Omega.{arith}
-use lib.ListN.{length, length-set}
-use Rattle.columns.proofs.Indices.{Listed, listed_none, listed_pass, listed_more}
+use lib.ListN.{length-set}
+use Rattle.columns.proofs.Indices.{listed_none, listed_pass, listed_more}
 use Rattle.world.specs.Rows.{rows}
-use Rattle.supports.specs.Supports.{lacks_support, support_issues}
+use Rattle.supports.specs.Supports.{support_issues}
 use Rattle.supports.proofs.list_issues.Goals as goal
+use Rattle.supports.proofs.list_issues.Goals.{then-lacks_support, else-lacks_support}
 
 pub loop-i-init : goal.loop-i-init
 loop-i-init c = (omega arith, c.rows-n.ensures, refl, listed_none)
@@ -26,16 +24,25 @@ pub overflow_add-count : goal.overflow_add-count
 overflow_add-count c = omega (arith, c.loop-i.invariant.3)
 
 pub loop-i-preserved : goal.loop-i-preserved
-loop-i-preserved c = let l = c in
-    let lacks = c.lacks_support.ensures in
-    ⊎_elim
-    (λ w. rw (w.1, w.2) (omega arith, l.loop-i.invariant.1, simp length-set l.loop-i.invariant.2, listed_more l.loop-i.invariant.3 (sym lacks ∙ w.0.taken) (omega (arith, l.requires))))
-    (λ w. rw (w.1, w.2) (omega arith, l.loop-i.invariant.1, l.loop-i.invariant.2, listed_pass l.loop-i.invariant.3 (sym lacks ∙ w.0.left)))
-    c.if-lacks_support.branch
+loop-i-preserved c =
+    elim c.if-lacks_support.branch [
+      | then-lacks_support w ↦ rw (w.column-is, w.count-is)
+          (omega arith, c.loop-i.invariant.1, simp length-set c.loop-i.invariant.2, listed_more c.loop-i.invariant.3 (sym c.lacks_support.ensures ∙ w.if-lacks_support.true) (omega (arith, c.requires)))
+      | else-lacks_support w ↦ rw (w.column-is, w.count-is)
+          (omega arith, c.loop-i.invariant.1, c.loop-i.invariant.2, listed_pass c.loop-i.invariant.3 (sym c.lacks_support.ensures ∙ w.if-lacks_support.false))
+    ]
 
-pub returns : goal.returns
+pub returns-clause-count : goal.returns-clause-count
 unfolding support_issues
-returns c = let l = c in
-    let all : l.loop-i.i ≡ rows l.args.table.now = omega arith in
-    let done = rw all at l.loop-i.invariant.3 in
-    (done.counted, (omega (arith, l.loop-i.invariant.3, l.requires), done.is))
+returns-clause-count c = let all : c.loop-i.i ≡ rows c.args.table.now = omega arith in
+    let done = rw all at c.loop-i.invariant.3 in
+    done.counted
+
+pub returns-clause-few : goal.returns-clause-few
+returns-clause-few c = omega (arith, c.loop-i.invariant.3, c.requires)
+
+pub returns-clause-entries : goal.returns-clause-entries
+unfolding support_issues
+returns-clause-entries c = let all : c.loop-i.i ≡ rows c.args.table.now = omega arith in
+    let done = rw all at c.loop-i.invariant.3 in
+    done.is

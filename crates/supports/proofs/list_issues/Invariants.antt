@@ -1,13 +1,10 @@
 -- `supports::list_issues` meets its contract. The loop's invariant: of the rows passed, those that lack a support are at the front. Assumes nothing.
-use borrow.Author.Rules.{rules}
-use mathlib.Core.Path.{◌≡◌, refl, sym, ◌∙◌}
-use mathlib.Core.Logic.{⊎_elim}
+use mathlib.Core.Path.{◌≡◌}
 use Prim.Native.Nat.{◌≤◌, ◌-◌}
-use native.Mathlib.Omega.{arith}
-use lib.ListN.{length, length-set}
-use Rattle.columns.proofs.Indices.{Listed, listed_none, listed_pass, listed_more}
+use lib.ListN.{length}
+use Rattle.columns.proofs.Indices.{Listed}
 use Rattle.world.specs.Rows.{rows}
-use Rattle.supports.specs.Supports.{lacks_support, support_issues}
+use Rattle.supports.specs.Supports.{lacks_support}
 use Rattle.supports.proofs.list_issues.Given as goal
 
 abbrev pub invariant-loop-i : goal.invariant-loop-i

@@ -11,7 +11,6 @@ use Rattle.refusals.proofs.Passed.{passed_both, passed_unless}
 use Rattle.refusals.proofs.Accepted.{accepted_input}
 use Rattle.world.specs.Rows.{rows}
 use Rattle.supports.specs.Supports.{check_supports}
-use borrow.Author.Rules.{rules}
 use Rattle.supports.proofs.support_issues.Goals as goal
 
 -- where nothing is refused there is an entry for each of at most 1,024 rows
@@ -22,9 +21,6 @@ accepted_room p t n h =
     let (room, _) = passed_unless 7 (eqb n (rows t)) _ rest in
     (eqb-true n (rows t) room, (accepted_input p t input).1.few)
 
-accepted : (c : goal.In_default) → check_supports c.args.profile.now c.args.table.now (length c.args.column.now) ≡ Accepted
-accepted c = sym c.check_supports-checked.ensures ∙ c.enum_told-in_default-1.given.1
-
 pub returns-in-Refused : goal.returns-in-Refused
 returns-in-Refused c = let checked = c.check_supports-checked in
     let told = c.in-Refused.is in
@@ -32,10 +28,12 @@ returns-in-Refused c = let checked = c.check_supports-checked in
     record { answer = rw refused (rw told at c.answer.ensures); entries = rw refused }
 
 pub list_issues-requires : goal.list_issues-requires
-list_issues-requires c = let a = c.args in
-    accepted_room a.profile.now a.table.now (length a.column.now) (accepted c)
+list_issues-requires c =
+    let a = c.args in
+    accepted_room a.profile.now a.table.now (length a.column.now) (sym c.check_supports-checked.ensures ∙ c.in_default.is)
 
 pub returns : goal.returns
-returns c = let listed = c.list_issues in
-    let none = accepted c in
-    record { answer = rw none listed.ensures.0; entries = rw none listed.ensures.1.1 }
+returns c =
+    let listed = c.list_issues.ensures in
+    let none = sym c.check_supports-checked.ensures ∙ c.in_default.is in
+    record { answer = rw none listed.count; entries = rw none listed.entries }

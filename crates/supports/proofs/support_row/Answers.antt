@@ -1,7 +1,6 @@
 -- `supports::support_row` meets its contract, by what the look-up finds and by its traits. Assumes nothing.
 use mathlib.Core.Path.{sym, ap, ◌∙◌}
 use Rattle.supports.specs.Rows.{support_row}
-use borrow.Author.Rules.{rules}
 use Rattle.supports.proofs.support_row.Goals as goal
 
 pub returns-in_default : goal.returns-in_default

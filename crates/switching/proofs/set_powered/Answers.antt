@@ -3,7 +3,6 @@ use mathlib.Core.Path.{sym, ◌∙◌}
 use native.Mathlib.Omega.{arith}
 use Rattle.world.proofs.Finding.{found_stands}
 use Rattle.switching.specs.Switch.{switched}
-use borrow.Author.Rules.{rules}
 use Rattle.switching.proofs.set_powered.Goals as goal
 
 pub returns-in_default : goal.returns-in_default

@@ -1,13 +1,11 @@
 -- Answers of `text::bytes`.
 use mathlib.Core.Path.{◌≡◌}
-use Prim.Native.Nat.{◌≤◌, ◌-◌, ◌+◌}
+use Prim.Native.Nat.{◌+◌}
 use native.Mathlib.Nat.{add-zero}
 use native.Mathlib.Numerals.{add-one}
 use native.Mathlib.Omega.{arith}
 use lib.ListN.{length, take, get_or}
 use lib.Seq.{take-suc, take-length}
-use borrow.Author.Rules.{rules}
-use Rattle.text.specs.Put.{Puts}
 use Rattle.text.proofs.Putting.{puts_none, puts_more, puts_length}
 use Rattle.text.proofs.bytes.Goals as goal
 

@@ -1,14 +1,7 @@
 -- `text::bytes` meets its contract. The loop's invariant: the first `i` bytes of the text are put. Assumes nothing.
-use mathlib.Core.Path.{◌≡◌}
 use Prim.Native.Nat.{◌≤◌, ◌-◌, ◌+◌}
-use native.Mathlib.Nat.{add-zero}
-use native.Mathlib.Numerals.{add-one}
-use native.Mathlib.Omega.{arith}
-use lib.ListN.{length, take, get_or}
-use lib.Seq.{take-suc, take-length}
-use borrow.Author.Rules.{rules}
+use lib.ListN.{length, take}
 use Rattle.text.specs.Put.{Puts}
-use Rattle.text.proofs.Putting.{puts_none, puts_more, puts_length}
 use Rattle.text.proofs.bytes.Given as goal
 
 abbrev pub invariant-loop-i : goal.invariant-loop-i

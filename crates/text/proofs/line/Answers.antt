@@ -1,7 +1,6 @@
 -- `text::line` meets its contract. Assumes nothing.
 use mathlib.Core.List.{append_assoc}
 use native.Mathlib.Omega.{arith}
-use borrow.Author.Rules.{rules}
 use Rattle.text.specs.Text.{line_of}
 use Rattle.text.proofs.Putting.{puts_then}
 use Rattle.text.proofs.line.Goals as goal
@@ -10,4 +9,4 @@ pub returns : goal.returns
 unfolding line_of
 returns c = let number = c in
     let name = number in
-    (rw append_assoc (puts_then name.bytes-start.ensures number.number.ensures.0), omega (arith, name.bytes-start.ensures.end, number.number.ensures.1))
+    record { puts = rw append_assoc (puts_then name.bytes-start.ensures number.number.ensures.puts); few = omega (arith, name.bytes-start.ensures.end, number.number.ensures.few) }

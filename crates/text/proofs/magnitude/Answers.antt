@@ -24,10 +24,10 @@ overflow_cast-result-then-x-lt0 c = let s = c in
 pub returns-then-x-lt0 : goal.returns-then-x-lt0
 returns-then-x-lt0 c = let s = c in
     let n = neg c in
-    rw (back32 _ s.ranges.x, back64 _ (up s.ranges.x), back64 _ n.sfits, n.size) (refl, size_few _ s.ranges.x)
+    rw (back32 _ s.ranges.x, back64 _ (up s.ranges.x), back64 _ n.sfits, n.size) (record { value = refl; few = size_few _ s.ranges.x })
 
 pub overflow_cast-result-2 : goal.overflow_cast-result-2
-overflow_cast-result-2 c = let s = c in rw (back32 _ s.ranges.x) ((nonneg c).sign, (nonneg c).ranges)
+overflow_cast-result-2 c = let s = c in rw (back32 _ s.ranges.x) ((nonneg c).sign, (nonneg c).fits)
 
 pub returns : goal.returns
-returns c = let s = c in rw (back32 _ s.ranges.x) (refl, size_few _ s.ranges.x)
+returns c = let s = c in rw (back32 _ s.ranges.x) (record { value = refl; few = size_few _ s.ranges.x })

@@ -1,6 +1,5 @@
 -- `torch::next_candidate` meets its contract. Assumes nothing.
 use Rattle.torch.specs.Step.{next_candidate}
-use borrow.Author.Rules.{rules}
 use Rattle.torch.proofs.next_candidate.Goals as goal
 
 pub returns : goal.returns

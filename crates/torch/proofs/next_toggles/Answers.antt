@@ -1,7 +1,6 @@
 -- `torch::next_toggles` meets its contract. Assumes nothing.
 use native.Mathlib.Omega.{arith}
 use Rattle.torch.specs.Step.{next_toggles}
-use borrow.Author.Rules.{rules}
 use Rattle.torch.proofs.next_toggles.Goals as goal
 
 pub returns-then-toggled : goal.returns-then-toggled

@@ -1,7 +1,6 @@
 -- `torch::torch_support_is_powered` meets its contract, by what the look-up finds. Assumes nothing.
 use mathlib.Core.Path.{sym, ◌∙◌}
 use Rattle.torch.specs.Step.{torch_support_is_powered}
-use borrow.Author.Rules.{rules}
 use Rattle.torch.proofs.torch_support_is_powered.Goals as goal
 
 pub returns-in_default : goal.returns-in_default

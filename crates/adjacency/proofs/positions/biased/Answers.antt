@@ -1,5 +1,4 @@
 -- `adjacency::positions::biased` meets its contract. Assumes nothing.
-use borrow.Author.Rules.{rules}
 use Rattle.adjacency.proofs.Packed.{word_biased}
 use Rattle.adjacency.proofs.positions.biased.Goals as goal
 

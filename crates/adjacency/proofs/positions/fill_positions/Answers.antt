@@ -1,10 +1,7 @@
 -- Answers of `adjacency::positions::fill_positions`.
-use borrow.Author.Rules.{rules}
-use Prim.Native.Nat.{◌-◌}
 use native.Mathlib.Omega.{arith}
-use Rattle.columns.proofs.Columns.{Filled, filled_none, filled_more, filled_all}
-use Rattle.world.specs.Rows.{rows, pos_of}
-use Rattle.adjacency.specs.Adjacency.{packed, positions_of}
+use Rattle.columns.proofs.Columns.{filled_none, filled_more, filled_all}
+use Rattle.adjacency.specs.Adjacency.{positions_of}
 use Rattle.adjacency.proofs.positions.fill_positions.Goals as goal
 
 pub loop-i-init : goal.loop-i-init

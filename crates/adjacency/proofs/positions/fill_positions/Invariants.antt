@@ -1,10 +1,8 @@
 -- `adjacency::positions::fill_positions` meets its contract. The loop's invariant: the rows passed are packed. Assumes nothing.
-use borrow.Author.Rules.{rules}
 use Prim.Native.Nat.{◌-◌}
-use native.Mathlib.Omega.{arith}
-use Rattle.columns.proofs.Columns.{Filled, filled_none, filled_more, filled_all}
+use Rattle.columns.proofs.Columns.{Filled}
 use Rattle.world.specs.Rows.{rows, pos_of}
-use Rattle.adjacency.specs.Adjacency.{packed, positions_of}
+use Rattle.adjacency.specs.Adjacency.{packed}
 use Rattle.adjacency.proofs.positions.fill_positions.Given as goal
 
 abbrev pub invariant-loop-i : goal.invariant-loop-i

@@ -1,5 +1,4 @@
 -- `adjacency::positions::packed_at` meets its contract. Assumes nothing.
-use borrow.Author.Rules.{rules}
 use Rattle.world.specs.Rows.{pos_of}
 use Rattle.adjacency.specs.Adjacency.{packed}
 use Rattle.adjacency.proofs.Found.{words_in_range}

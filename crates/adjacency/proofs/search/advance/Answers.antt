@@ -1,8 +1,5 @@
 -- Answers of `adjacency::search::advance`.
 use borrow.Author.Rules.{rules}
-use Prim.Native.Nat.{◌-◌}
-use lib.ListN.{length}
-use Rattle.adjacency.specs.Search.{Passed}
 use Rattle.adjacency.proofs.Searching.{passed_more}
 use Rattle.adjacency.proofs.search.advance.Goals as goal
 

@@ -1,9 +1,7 @@
 -- `adjacency::search::advance` meets its contract. The loop's invariant: the rows before p are below the number. Assumes nothing.
-use borrow.Author.Rules.{rules}
 use Prim.Native.Nat.{◌-◌}
 use lib.ListN.{length}
 use Rattle.adjacency.specs.Search.{Passed}
-use Rattle.adjacency.proofs.Searching.{passed_more}
 use Rattle.adjacency.proofs.search.advance.Given as goal
 
 abbrev pub invariant-loop-p : goal.invariant-loop-p

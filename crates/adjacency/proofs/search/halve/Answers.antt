@@ -1,7 +1,6 @@
 -- Answers of `adjacency::search::halve`.
 use borrow.Author.Rules.{rules}
-use Prim.Native.Nat.{◌-◌}
-use Rattle.adjacency.proofs.Searching.{Halving, halving_all, upper_half, lower_half, halving_end}
+use Rattle.adjacency.proofs.Searching.{halving_all, upper_half, lower_half, halving_end}
 use Rattle.adjacency.proofs.search.halve.Goals as goal
 
 pub loop-lo-init : goal.loop-lo-init

@@ -1,7 +1,6 @@
 -- `adjacency::search::halve` meets its contract. The loop's invariant: the rows below lo are below the number, and row hi is not. Assumes nothing.
-use borrow.Author.Rules.{rules}
 use Prim.Native.Nat.{◌-◌}
-use Rattle.adjacency.proofs.Searching.{Halving, halving_all, upper_half, lower_half, halving_end}
+use Rattle.adjacency.proofs.Searching.{Halving}
 use Rattle.adjacency.proofs.search.halve.Given as goal
 
 abbrev pub invariant-loop-lo : goal.invariant-loop-lo

@@ -1,9 +1,7 @@
 -- Answers of `adjacency::search::walk`.
 use borrow.Author.Rules.{rules}
-use Prim.Native.Nat.{◌-◌}
 use native.Mathlib.Omega.{arith}
-use lib.ListN.{length}
-use Rattle.adjacency.proofs.Searching.{Walking, walking_none, walking_more, walking_all}
+use Rattle.adjacency.proofs.Searching.{walking_none, walking_more, walking_all}
 use Rattle.adjacency.proofs.search.walk.Goals as goal
 
 pub loop-i-init : goal.loop-i-init

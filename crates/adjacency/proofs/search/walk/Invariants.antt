@@ -1,9 +1,7 @@
 -- `adjacency::search::walk` meets its contract. The loop's invariant: the rows passed are walked from, and the walk goes on at row p. Assumes nothing.
-use borrow.Author.Rules.{rules}
 use Prim.Native.Nat.{◌-◌}
-use native.Mathlib.Omega.{arith}
 use lib.ListN.{length}
-use Rattle.adjacency.proofs.Searching.{Walking, walking_none, walking_more, walking_all}
+use Rattle.adjacency.proofs.Searching.{Walking}
 use Rattle.adjacency.proofs.search.walk.Given as goal
 
 abbrev pub invariant-loop-i : goal.invariant-loop-i

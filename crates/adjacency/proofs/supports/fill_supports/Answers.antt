@@ -1,10 +1,6 @@
 -- Answers of `adjacency::supports::fill_supports`.
-use borrow.Author.Rules.{rules}
-use Prim.Native.Nat.{◌-◌}
 use native.Mathlib.Omega.{arith}
-use Rattle.columns.proofs.Columns.{Filled, filled_none, filled_more, filled_all}
-use Rattle.world.specs.Rows.{rows}
-use Rattle.adjacency.specs.Adjacency.{row_by}
+use Rattle.columns.proofs.Columns.{filled_none, filled_more, filled_all}
 use Rattle.adjacency.proofs.supports.fill_supports.Goals as goal
 
 pub loop-i-init : goal.loop-i-init

@@ -1,8 +1,6 @@
 -- `adjacency::supports::fill_supports` meets its contract. The loop's invariant: the supports of the rows passed are found. Assumes nothing.
-use borrow.Author.Rules.{rules}
 use Prim.Native.Nat.{◌-◌}
-use native.Mathlib.Omega.{arith}
-use Rattle.columns.proofs.Columns.{Filled, filled_none, filled_more, filled_all}
+use Rattle.columns.proofs.Columns.{Filled}
 use Rattle.world.specs.Rows.{rows}
 use Rattle.adjacency.specs.Adjacency.{row_by}
 use Rattle.adjacency.proofs.supports.fill_supports.Given as goal

@@ -1,5 +1,4 @@
 -- `adjacency::supports::support_at` meets its contract. Assumes nothing.
-use borrow.Author.Rules.{rules}
 use mathlib.Core.Path.{sym, ◌∙◌}
 use native.Mathlib.Omega.{arith}
 use Rattle.adjacency.proofs.Found.{placed_long, placed_bounds, placed_rises}

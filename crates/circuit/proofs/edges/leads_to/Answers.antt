@@ -1,13 +1,10 @@
 -- Answers of `circuit::edges::leads_to`.
 use mathlib.Core.Path.{◌≡◌, sym, ◌∙◌}
-use mathlib.Core.Bool.{false}
-use Prim.Native.Nat.{◌-◌, ◌≤◌}
 use native.Mathlib.Numerals.{add-one}
 use native.Mathlib.Omega.{arith}
-use lib.Dec.{eqb}
 use borrow.Author.Rules.{rules}
 use borrow.Author.Tests.{eq-eqb, ne_eqb}
-use Rattle.circuit.specs.Circuit.{sink_of, ways, some_below}
+use Rattle.circuit.specs.Circuit.{ways, some_below}
 use Rattle.circuit.proofs.Ways.{holds_some}
 use Rattle.circuit.proofs.edges.leads_to.Goals as goal
 

@@ -1,18 +1,13 @@
 -- `circuit::edges::leads_to` meets its contract. The loop's invariant: none of the ways passed leads there. Assumes nothing.
-use mathlib.Core.Path.{◌≡◌, sym, ◌∙◌}
+use mathlib.Core.Path.{◌≡◌}
 use mathlib.Core.Bool.{false}
 use Prim.Native.Nat.{◌-◌, ◌≤◌}
-use native.Mathlib.Numerals.{add-one}
-use native.Mathlib.Omega.{arith}
 use lib.Dec.{eqb}
-use borrow.Author.Rules.{rules}
-use borrow.Author.Tests.{eq-eqb, ne_eqb}
 use Rattle.circuit.specs.Circuit.{sink_of, ways, some_below}
-use Rattle.circuit.proofs.Ways.{holds_some}
 use Rattle.circuit.proofs.edges.leads_to.Given as goal
 
 abbrev pub invariant-loop-k : goal.invariant-loop-k
-invariant-loop-k l = (l.k ≤ ways l.edge) × (some_below (λ l.k. eqb (sink_of l.near l.class l.edge l.j l.k) l.i) l.k ≡ false)
+invariant-loop-k l = (l.k ≤ ways l.edge) × (some_below (λ k. eqb (sink_of l.near l.class l.edge l.j k) l.i) l.k ≡ false)
 
 abbrev pub decreases-loop-k : goal.decreases-loop-k
 decreases-loop-k l = ways l.edge - l.k

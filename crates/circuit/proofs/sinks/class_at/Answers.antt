@@ -1,7 +1,6 @@
 -- `circuit::sinks::class_at` meets its contract. Assumes nothing.
 use mathlib.Core.Path.{sym}
 use lib.ListN.{get_or-eq_default}
-use borrow.Author.Rules.{rules}
 use Rattle.circuit.proofs.sinks.class_at.Goals as goal
 
 pub returns : goal.returns

@@ -1,5 +1,4 @@
 -- `circuit::sinks::driven_sink` meets its contract. Assumes nothing.
-use borrow.Author.Rules.{rules}
 use Rattle.circuit.specs.Circuit.{sink_of}
 use Rattle.circuit.proofs.sinks.driven_sink.Goals as goal
 

@@ -1,5 +1,4 @@
 -- `circuit::sinks::level_sink` meets its contract. Assumes nothing.
-use borrow.Author.Rules.{rules}
 use Rattle.circuit.specs.Circuit.{level_sink}
 use Rattle.circuit.proofs.sinks.level_sink.Goals as goal
 

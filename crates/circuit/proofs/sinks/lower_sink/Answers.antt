@@ -1,5 +1,4 @@
 -- `circuit::sinks::lower_sink` meets its contract. Assumes nothing.
-use borrow.Author.Rules.{rules}
 use Rattle.circuit.specs.Circuit.{lower_sink}
 use Rattle.circuit.proofs.sinks.lower_sink.Goals as goal
 

@@ -1,6 +1,5 @@
 -- `circuit::sinks::over_sink` meets its contract. Assumes nothing.
 use mathlib.Core.Bool.{and-true, and-false}
-use borrow.Author.Rules.{rules}
 use Rattle.circuit.proofs.sinks.over_sink.Goals as goal
 
 pub returns-then-rises_by_in : goal.returns-then-rises_by_in

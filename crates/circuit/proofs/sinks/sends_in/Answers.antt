@@ -1,5 +1,4 @@
 -- `circuit::sinks::sends_in` meets its contract, edge by edge. Assumes nothing.
-use borrow.Author.Rules.{rules}
 use Rattle.circuit.proofs.sinks.sends_in.Goals as goal
 
 pub returns-in-DustToWeak : goal.returns-in-DustToWeak

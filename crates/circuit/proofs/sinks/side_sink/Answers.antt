@@ -1,6 +1,5 @@
 -- `circuit::sinks::side_sink` meets its contract. Assumes nothing.
 use mathlib.Core.Bool.{and-false}
-use borrow.Author.Rules.{rules}
 use Rattle.circuit.proofs.sinks.side_sink.Goals as goal
 
 pub returns-then-drives_in : goal.returns-then-drives_in

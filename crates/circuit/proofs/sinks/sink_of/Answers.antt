@@ -1,25 +1,24 @@
 -- `circuit::sinks::sink_of` meets its contract, edge by edge. Assumes nothing.
 use native.Mathlib.Omega.{arith}
-use borrow.Author.Rules.{rules}
 use Rattle.circuit.proofs.sinks.sink_of.Goals as goal
 
 pub strong_sink-requires : goal.strong_sink-requires
-strong_sink-requires c = let p = c.requires in let few = rw c.in-EmittedToStrong.is at p.1 in (p.0, omega arith)
+strong_sink-requires c = let few = rw c.in-EmittedToStrong.is at c.requires.k_bound in record { shaped = c.requires.shaped; k_lt_places = omega arith }
 
 pub weak_sink-requires : goal.weak_sink-requires
-weak_sink-requires c = let p = c.requires in let few = rw c.in-StrongToWeak.is at p.1 in (p.0, omega arith)
+weak_sink-requires c = let few = rw c.in-StrongToWeak.is at c.requires.k_bound in record { shaped = c.requires.shaped; k_lt_places = omega arith }
 
 pub under_sink-requires : goal.under_sink-requires
-under_sink-requires c = let p = c.requires in let few = rw c.in-DustToWeak.is at p.1 in (p.0, omega arith)
+under_sink-requires c = let few = rw c.in-DustToWeak.is at c.requires.k_bound in record { shaped = c.requires.shaped; k_lt_places = omega arith }
 
 pub transmit_sink-requires : goal.transmit_sink-requires
-transmit_sink-requires c = let p = c.requires in let few = rw c.in-Transmits.is at p.1 in (p.0, omega arith)
+transmit_sink-requires c = let few = rw c.in-Transmits.is at c.requires.k_bound in record { shaped = c.requires.shaped; k_bound = omega arith }
 
 pub lit_sink-requires : goal.lit_sink-requires
-lit_sink-requires c = let p = c.requires in let few = rw c.in-EmittedToDust.is at p.1 in (p.0, omega arith)
+lit_sink-requires c = let few = rw c.in-EmittedToDust.is at c.requires.k_bound in record { shaped = c.requires.shaped; k_lt_places = omega arith }
 
 pub driven_sink-requires : goal.driven_sink-requires
-driven_sink-requires c = let p = c.requires in let few = rw c.in-StrongToDust.is at p.1 in (p.0, omega arith)
+driven_sink-requires c = let few = rw c.in-StrongToDust.is at c.requires.k_bound in record { shaped = c.requires.shaped; k_lt_places = omega arith }
 
 pub returns-in-EmittedToStrong : goal.returns-in-EmittedToStrong
 returns-in-EmittedToStrong c = rw c.in-EmittedToStrong.is c.strong_sink.ensures

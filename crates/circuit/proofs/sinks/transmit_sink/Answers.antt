@@ -1,6 +1,5 @@
 -- `circuit::sinks::transmit_sink` meets its contract. Assumes nothing.
 use borrow.Author.Tests.{lt-ltb, le-ltb}
-use borrow.Author.Rules.{rules}
 use Rattle.circuit.specs.Circuit.{sink_of}
 use Rattle.circuit.proofs.sinks.transmit_sink.Goals as goal
 

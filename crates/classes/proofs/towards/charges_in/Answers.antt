@@ -1,5 +1,4 @@
 -- `classes::towards::charges_in` meets its contract. Assumes nothing.
-use borrow.Author.Rules.{rules}
 use borrow.Author.Tests.{lt-ltb, le-ltb}
 use Rattle.classes.proofs.towards.charges_in.Goals as goal
 

@@ -1,7 +1,6 @@
 -- `classes::towards::touched_in` meets its contract. Assumes nothing.
 use mathlib.Core.Bool.{and-true}
 use borrow.Author.Tests.{lt-ltb, le-ltb}
-use borrow.Author.Rules.{rules}
 use Rattle.classes.proofs.towards.touched_in.Goals as goal
 
 pub returns-then-k-lt4 : goal.returns-then-k-lt4

@@ -10,7 +10,6 @@ use Rattle.columns.proofs.First.{first_same}
 use Rattle.refusals.specs.Check.{is_overdriven_device}
 use Rattle.refusals.proofs.Passed.{row_fits, at_else}
 use Rattle.emitted.specs.Emitted.{check_devices}
-use borrow.Author.Rules.{rules}
 use Rattle.emitted.proofs.device.check_column.Goals as goal
 
 -- the first of one byte a row

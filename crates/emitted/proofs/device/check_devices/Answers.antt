@@ -1,7 +1,6 @@
 -- `emitted::device::check_devices` meets its contract: an accepted table has at most 1,024 rows. Assumes nothing.
 use mathlib.Core.Path.{sym, ◌∙◌}
 use Rattle.refusals.proofs.Accepted.{accepted_input}
-use borrow.Author.Rules.{rules}
 use Rattle.emitted.proofs.device.check_devices.Goals as goal
 
 pub returns-in-Refused : goal.returns-in-Refused

@@ -1,11 +1,8 @@
 -- Answers of `emitted::device::first_bad_device`.
-use borrow.Author.Rules.{rules}
 use mathlib.Core.Path.{◌≡◌, sym, ◌∙◌}
 use mathlib.Core.Bool.{true, false}
-use Prim.Native.Nat.{◌-◌, ◌≤◌}
 use native.Mathlib.Nat.{sub-zero}
 use native.Mathlib.Omega.{arith}
-use Rattle.columns.specs.First.{first_from}
 use Rattle.columns.proofs.First.{scan_hit, scan_miss, scan_over}
 use Rattle.emitted.specs.Emitted.{is_bad_device}
 use Rattle.emitted.proofs.device.first_bad_device.Goals as goal

@@ -11,7 +11,6 @@ use Rattle.columns.specs.Column.{Bytes}
 use Rattle.blocks.specs.Kind.{RedstoneTorch, Repeater, Comparator, Lever, Button, PressurePlate, RedstoneBlock}
 use Rattle.world.specs.Rows.{kind_of}
 use Rattle.emitted.specs.Emitted.{emitted_level}
-use borrow.Author.Rules.{rules}
 use Rattle.emitted.proofs.output.component_output_level.Goals as goal
 
 -- a row of a kind outside 4 to 9, and no redstone block, emits nothing
@@ -56,8 +55,8 @@ returns-in-7 c = let kind = c.kind_of-kind in
 
 pub returns-in_default : goal.returns-in_default
 returns-in_default c = let kind = c.kind_of-kind in
-    dark _ _ _ (λ e. c.in_default-1.in_default-own.rest.0.1 (kind.ensures ∙ e)) (λ n g h e. omega (arith, kind.ensures))
+    dark _ _ _ (λ e. omega (arith, kind.ensures)) (λ n g h e. omega (arith, kind.ensures))
 
 pub returns-in_default-2 : goal.returns-in_default-2
 returns-in_default-2 c = let kind = c.kind_of-kind in
-    dark _ _ _ (λ e. c.in_default-1.in_default-own.rest.0.1 (kind.ensures ∙ e)) (λ n g h e. omega (arith, kind.ensures))
+    dark _ _ _ (λ e. omega (arith, kind.ensures)) (λ n g h e. omega (arith, kind.ensures))

@@ -1,11 +1,8 @@
 -- Answers of `emitted::output::fill_emitted`.
 use borrow.Author.Rules.{rules}
-use Prim.Native.Nat.{◌-◌}
 use native.Mathlib.Omega.{arith}
-use lib.ListN.{length}
-use Rattle.columns.specs.Column.{row}
-use Rattle.columns.proofs.Columns.{Filled, fills, filled_all}
-use Rattle.emitted.specs.Emitted.{emitted_level, emitted}
+use Rattle.columns.proofs.Columns.{fills, filled_all}
+use Rattle.emitted.specs.Emitted.{emitted}
 use Rattle.emitted.proofs.output.fill_emitted.Goals as goal
 
 pub loop-i-init : goal.loop-i-init

@@ -1,11 +1,9 @@
 -- `emitted::output::fill_emitted` meets its contract. The loop's invariant: the first i rows are the rule's. Assumes nothing.
-use borrow.Author.Rules.{rules}
 use Prim.Native.Nat.{◌-◌}
-use native.Mathlib.Omega.{arith}
 use lib.ListN.{length}
 use Rattle.columns.specs.Column.{row}
-use Rattle.columns.proofs.Columns.{Filled, fills, filled_all}
-use Rattle.emitted.specs.Emitted.{emitted_level, emitted}
+use Rattle.columns.proofs.Columns.{Filled}
+use Rattle.emitted.specs.Emitted.{emitted_level}
 use Rattle.emitted.proofs.output.fill_emitted.Given as goal
 
 abbrev pub invariant-loop-i : goal.invariant-loop-i

@@ -1,7 +1,6 @@
 -- `emitted::output::switch_level` meets its contract. Assumes nothing.
 use mathlib.Core.Path.{sym, ◌∙◌}
 use Rattle.emitted.specs.Emitted.{switch_level}
-use borrow.Author.Rules.{rules}
 use Rattle.emitted.proofs.output.switch_level.Goals as goal
 
 pub returns-then-is_powered : goal.returns-then-is_powered

@@ -2,11 +2,7 @@
 use mathlib.Core.Path.{◌≡◌, refl}
 use Prim.Native.Nat.{ℕ, zero, suc, ◌+◌, ◌-◌, ◌*◌}
 use native.Mathlib.Omega.{arith}
-use borrow.Author.Rules.{rules}
 use Rattle.network.specs.Laws.Keys.{level_of, round_of}
-use Rattle.keys.proofs.key.round_of.Reads as reads
-use Rattle.keys.proofs.key.round_of.Lts as lts
-use Rattle.keys.proofs.key.level_of.Reads as level-of-reads
 use Rattle.keys.proofs.key.round_of.Goals as goal
 
 -- src/key.rt:19:9

@@ -2,7 +2,6 @@
 use mathlib.Core.Path.{ap, ◌∙◌}
 use lib.ListN.{length}
 use Rattle.keys.proofs.Passing.{length_own, own_low}
-use borrow.Author.Rules.{rules}
 use Rattle.keys.proofs.pass.fill_keys.Goals as goal
 
 pub pass_levels-requires : goal.pass_levels-requires

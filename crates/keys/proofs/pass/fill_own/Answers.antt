@@ -2,11 +2,10 @@
 use borrow.Author.Rules.{rules}
 use mathlib.Core.Path.{ap, sym, ◌∙◌}
 use native.Mathlib.Omega.{arith}
-use Prim.Native.Nat.{◌-◌, ◌*◌, min}
-use lib.ListN.{length}
+use Prim.Native.Nat.{◌*◌, min}
 use Rattle.columns.specs.Column.{row, tabulate}
 use Rattle.columns.specs.Signal.{max_signal}
-use Rattle.columns.proofs.Columns.{Filled, fills, filled_all}
+use Rattle.columns.proofs.Columns.{fills, filled_all}
 use Rattle.keys.specs.Pass.{own_keys}
 use Rattle.keys.proofs.pass.fill_own.Goals as goal
 

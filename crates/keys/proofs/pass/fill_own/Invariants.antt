@@ -1,13 +1,9 @@
 -- `keys::pass::fill_own` meets its contract. The loop's invariant: the first i rows are the rule's. Assumes nothing.
-use borrow.Author.Rules.{rules}
-use mathlib.Core.Path.{ap, sym, ◌∙◌}
-use native.Mathlib.Omega.{arith}
 use Prim.Native.Nat.{◌-◌, ◌*◌, min}
 use lib.ListN.{length}
-use Rattle.columns.specs.Column.{row, tabulate}
+use Rattle.columns.specs.Column.{row}
 use Rattle.columns.specs.Signal.{max_signal}
-use Rattle.columns.proofs.Columns.{Filled, fills, filled_all}
-use Rattle.keys.specs.Pass.{own_keys}
+use Rattle.columns.proofs.Columns.{Filled}
 use Rattle.keys.proofs.pass.fill_own.Given as goal
 
 abbrev pub invariant-loop-i : goal.invariant-loop-i

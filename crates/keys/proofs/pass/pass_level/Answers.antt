@@ -1,16 +1,7 @@
 -- Answers of `keys::pass::pass_level`.
-use borrow.Author.Rules.{rules}
-use mathlib.Core.Path.{◌≡◌}
-use mathlib.Core.Bool.{true}
-use Prim.Native.Nat.{◌-◌, ◌<◌}
 use native.Mathlib.Omega.{arith}
-use lib.ListN.{length}
-use Rattle.columns.specs.Column.{row}
-use Rattle.circuit.specs.declared.Edge.TheVariants.{Transmits}
-use Rattle.circuit.specs.Circuit.{edge_in}
 use Rattle.spread.specs.Spread.{spread_from}
-use Rattle.keys.specs.Search.{is_within}
-use Rattle.keys.proofs.Passing.{Bounds, within_level, Passing, passing_none, passing_skip, passing_more, passing_all}
+use Rattle.keys.proofs.Passing.{Bounds, within_level, passing_none, passing_skip, passing_more, passing_all}
 use Rattle.keys.proofs.pass.pass_level.Goals as goal
 
 pub loop-j-init : goal.loop-j-init

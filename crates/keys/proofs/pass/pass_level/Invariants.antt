@@ -1,17 +1,14 @@
 -- `keys::pass::pass_level` meets its contract. The loop's invariant: the dust of the level before row j has given its key, and row j is of the level.
 -- Assumes nothing.
-use borrow.Author.Rules.{rules}
 use mathlib.Core.Path.{◌≡◌}
 use mathlib.Core.Bool.{true}
 use Prim.Native.Nat.{◌-◌, ◌<◌}
-use native.Mathlib.Omega.{arith}
 use lib.ListN.{length}
 use Rattle.columns.specs.Column.{row}
 use Rattle.circuit.specs.declared.Edge.TheVariants.{Transmits}
 use Rattle.circuit.specs.Circuit.{edge_in}
-use Rattle.spread.specs.Spread.{spread_from}
 use Rattle.keys.specs.Search.{is_within}
-use Rattle.keys.proofs.Passing.{Bounds, within_level, Passing, passing_none, passing_skip, passing_more, passing_all}
+use Rattle.keys.proofs.Passing.{Bounds, Passing}
 use Rattle.keys.proofs.pass.pass_level.Given as goal
 
 abbrev pub invariant-loop-j : goal.invariant-loop-j

@@ -1,13 +1,8 @@
 -- Answers of `keys::pass::pass_levels`.
-use borrow.Author.Rules.{rules}
 use mathlib.Core.Path.{◌≡◌}
-use Prim.Native.Nat.{◌-◌, ◌*◌, ◌≤◌}
+use Prim.Native.Nat.{◌-◌, ◌*◌}
 use native.Mathlib.Omega.{arith}
-use lib.ListN.{length}
 use Rattle.columns.specs.Column.{row}
-use Rattle.circuit.specs.declared.Edge.TheVariants.{Transmits}
-use Rattle.circuit.specs.Circuit.{edge_in}
-use Rattle.keys.specs.Pass.{Given}
 use Rattle.keys.proofs.Passing.{given_start, given_kept}
 use Rattle.keys.proofs.pass.pass_levels.Goals as goal
 

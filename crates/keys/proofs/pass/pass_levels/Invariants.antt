@@ -1,14 +1,10 @@
 -- `keys::pass::pass_levels` meets its contract. The loop's invariant: the dust above the level has given its key. Assumes nothing.
-use borrow.Author.Rules.{rules}
-use mathlib.Core.Path.{◌≡◌}
-use Prim.Native.Nat.{◌-◌, ◌*◌, ◌≤◌}
-use native.Mathlib.Omega.{arith}
+use Prim.Native.Nat.{◌*◌, ◌≤◌}
 use lib.ListN.{length}
 use Rattle.columns.specs.Column.{row}
 use Rattle.circuit.specs.declared.Edge.TheVariants.{Transmits}
 use Rattle.circuit.specs.Circuit.{edge_in}
 use Rattle.keys.specs.Pass.{Given}
-use Rattle.keys.proofs.Passing.{given_start, given_kept}
 use Rattle.keys.proofs.pass.pass_levels.Given as goal
 
 abbrev pub invariant-loop-level : goal.invariant-loop-level

@@ -1,13 +1,8 @@
 -- Answers of `keys::rounds::last_of`.
-use borrow.Author.Rules.{rules}
 use mathlib.Core.Path.{◌≡◌, sym, ◌∙◌}
-use Prim.Native.Nat.{◌-◌, ◌≤◌}
 use native.Mathlib.Omega.{arith}
 use lib.ListN.{length}
-use Rattle.columns.specs.Column.{row}
-use Rattle.network.specs.Levels.{top}
 use Rattle.network.specs.Laws.Top.{top_none, top_more}
-use Rattle.network.specs.Laws.Keys.{round_of}
 use Rattle.keys.specs.Rounds.{last_of}
 use Rattle.keys.proofs.rounds.last_of.Goals as goal
 

@@ -1,13 +1,9 @@
 -- Answers of `keys::rounds::last_shown`.
-use borrow.Author.Rules.{rules}
 use mathlib.Core.Path.{◌≡◌, sym, ◌∙◌}
-use Prim.Native.Nat.{◌-◌, ◌≤◌}
 use native.Mathlib.Omega.{arith}
 use lib.ListN.{length}
-use Rattle.columns.specs.Column.{row}
-use Rattle.network.specs.Levels.{top}
 use Rattle.network.specs.Laws.Top.{top_none, top_more}
-use Rattle.keys.specs.Rounds.{shown_by, last_shown}
+use Rattle.keys.specs.Rounds.{last_shown}
 use Rattle.keys.proofs.rounds.last_shown.Goals as goal
 
 pub loop-i-init : goal.loop-i-init

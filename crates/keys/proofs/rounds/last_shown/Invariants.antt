@@ -1,13 +1,10 @@
 -- `keys::rounds::last_shown` meets its contract. The loop's invariant: `last` is the last round of the keys passed that show. Assumes nothing.
-use borrow.Author.Rules.{rules}
-use mathlib.Core.Path.{◌≡◌, sym, ◌∙◌}
+use mathlib.Core.Path.{◌≡◌}
 use Prim.Native.Nat.{◌-◌, ◌≤◌}
-use native.Mathlib.Omega.{arith}
 use lib.ListN.{length}
 use Rattle.columns.specs.Column.{row}
 use Rattle.network.specs.Levels.{top}
-use Rattle.network.specs.Laws.Top.{top_none, top_more}
-use Rattle.keys.specs.Rounds.{shown_by, last_shown}
+use Rattle.keys.specs.Rounds.{shown_by}
 use Rattle.keys.proofs.rounds.last_shown.Given as goal
 
 abbrev pub invariant-loop-i : goal.invariant-loop-i

@@ -3,7 +3,6 @@ use mathlib.Core.Path.{◌∙◌}
 use native.Mathlib.Omega.{arith}
 use borrow.Author.Tests.{lt-ltb, le-ltb}
 use Rattle.network.specs.Laws.Keys.{level_of}
-use borrow.Author.Rules.{rules}
 use Rattle.keys.proofs.rounds.shown.Goals as goal
 
 pub returns-then-base-level_of : goal.returns-then-base-level_of

@@ -1,10 +1,7 @@
 -- `keys::search::any_within` meets its contract. The loop's invariant: `any` is whether any row passed has such a key. Assumes nothing.
-use borrow.Author.Rules.{rules}
-use mathlib.Core.Path.{◌≡◌, sym}
+use mathlib.Core.Path.{◌≡◌}
 use Prim.Native.Nat.{◌-◌, ◌≤◌}
-use native.Mathlib.Omega.{arith}
 use Rattle.keys.specs.Search.{any_within}
-use Rattle.keys.proofs.Searching.{any_none, any_more}
 use Rattle.keys.proofs.search.any_within.Given as goal
 
 abbrev pub invariant-loop-i : goal.invariant-loop-i

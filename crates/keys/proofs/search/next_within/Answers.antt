@@ -1,9 +1,5 @@
 -- Answers of `keys::search::next_within`.
-use borrow.Author.Rules.{rules}
-use Prim.Native.Nat.{◌-◌}
 use native.Mathlib.Omega.{arith}
-use lib.ListN.{length}
-use Rattle.keys.specs.Search.{Skipped}
 use Rattle.keys.proofs.Searching.{skipped_row, skipped_on}
 use Rattle.keys.proofs.search.next_within.Goals as goal
 

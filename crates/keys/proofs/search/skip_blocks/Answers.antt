@@ -1,9 +1,6 @@
 -- Answers of `keys::search::skip_blocks`.
 use borrow.Author.Rules.{rules}
-use Prim.Native.Nat.{◌-◌}
 use native.Mathlib.Omega.{arith}
-use lib.ListN.{length}
-use Rattle.keys.specs.Search.{Skipped}
 use Rattle.keys.proofs.Searching.{skipped_none, skipped_block, skipped_on}
 use Rattle.keys.proofs.search.skip_blocks.Goals as goal
 

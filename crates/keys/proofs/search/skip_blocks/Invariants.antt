@@ -1,10 +1,7 @@
 -- `keys::search::skip_blocks` meets its contract. The loop's invariant: no row before row p has such a key. Assumes nothing.
-use borrow.Author.Rules.{rules}
 use Prim.Native.Nat.{◌-◌}
-use native.Mathlib.Omega.{arith}
 use lib.ListN.{length}
 use Rattle.keys.specs.Search.{Skipped}
-use Rattle.keys.proofs.Searching.{skipped_none, skipped_block, skipped_on}
 use Rattle.keys.proofs.search.skip_blocks.Given as goal
 
 abbrev pub invariant-loop-p : goal.invariant-loop-p

@@ -1,14 +1,7 @@
 -- Answers of `keys::settle::fill_signals`.
 use borrow.Author.Rules.{rules}
-use mathlib.Core.Bool.{cond}
-use Prim.Native.Nat.{◌-◌}
 use native.Mathlib.Omega.{arith}
-use lib.ListN.{length}
-use Rattle.columns.specs.Column.{row}
-use Rattle.columns.proofs.Columns.{Filled, fills, filled_all}
-use Rattle.network.specs.Laws.Keys.{level_of}
-use Rattle.blocks.specs.Kind.{is_dust}
-use Rattle.classes.specs.Class.{kind_in}
+use Rattle.columns.proofs.Columns.{fills, filled_all}
 use Rattle.circuit.specs.Circuit.{signals_in}
 use Rattle.keys.proofs.settle.fill_signals.Goals as goal
 

@@ -1,15 +1,12 @@
 -- `keys::settle::fill_signals` meets its contract. The loop's invariant: the first i rows are the rule's. Assumes nothing.
-use borrow.Author.Rules.{rules}
 use mathlib.Core.Bool.{cond}
 use Prim.Native.Nat.{◌-◌}
-use native.Mathlib.Omega.{arith}
 use lib.ListN.{length}
 use Rattle.columns.specs.Column.{row}
-use Rattle.columns.proofs.Columns.{Filled, fills, filled_all}
+use Rattle.columns.proofs.Columns.{Filled}
 use Rattle.network.specs.Laws.Keys.{level_of}
 use Rattle.blocks.specs.Kind.{is_dust}
 use Rattle.classes.specs.Class.{kind_in}
-use Rattle.circuit.specs.Circuit.{signals_in}
 use Rattle.keys.proofs.settle.fill_signals.Given as goal
 
 abbrev pub invariant-loop-i : goal.invariant-loop-i

@@ -1,7 +1,6 @@
 -- `keys::settle::fill_under` meets its contract. Assumes nothing.
 use Rattle.power.proofs.Spreading.{spread_zeros}
 use Rattle.keys.specs.Settle.{under_of}
-use borrow.Author.Rules.{rules}
 use Rattle.keys.proofs.settle.fill_under.Goals as goal
 
 pub returns : goal.returns

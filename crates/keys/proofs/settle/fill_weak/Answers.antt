@@ -1,11 +1,7 @@
 -- Answers of `keys::settle::fill_weak`.
 use borrow.Author.Rules.{rules}
-use Prim.Native.Nat.{◌-◌, max}
 use native.Mathlib.Omega.{arith}
-use lib.ListN.{length}
-use Rattle.columns.specs.Column.{row}
-use Rattle.columns.proofs.Columns.{Filled, fills, filled_all}
-use Rattle.network.specs.Laws.Keys.{level_of}
+use Rattle.columns.proofs.Columns.{fills, filled_all}
 use Rattle.keys.specs.Settle.{weak_by}
 use Rattle.keys.proofs.settle.fill_weak.Goals as goal
 

@@ -1,12 +1,9 @@
 -- `keys::settle::fill_weak` meets its contract. The loop's invariant: the first i rows are the rule's. Assumes nothing.
-use borrow.Author.Rules.{rules}
 use Prim.Native.Nat.{◌-◌, max}
-use native.Mathlib.Omega.{arith}
 use lib.ListN.{length}
 use Rattle.columns.specs.Column.{row}
-use Rattle.columns.proofs.Columns.{Filled, fills, filled_all}
+use Rattle.columns.proofs.Columns.{Filled}
 use Rattle.network.specs.Laws.Keys.{level_of}
-use Rattle.keys.specs.Settle.{weak_by}
 use Rattle.keys.proofs.settle.fill_weak.Given as goal
 
 abbrev pub invariant-loop-i : goal.invariant-loop-i

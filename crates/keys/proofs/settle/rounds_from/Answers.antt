@@ -4,7 +4,6 @@ use mathlib.Core.Bool.{true, false}
 use native.Mathlib.Omega.{arith}
 use Rattle.power.specs.Power.{none_mapped}
 use Rattle.keys.specs.Settle.{rounds_from}
-use borrow.Author.Rules.{rules}
 use Rattle.keys.proofs.settle.rounds_from.Goals as goal
 
 pub returns-then-none_mapped : goal.returns-then-none_mapped

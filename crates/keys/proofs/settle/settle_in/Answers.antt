@@ -1,17 +1,16 @@
 -- `keys::settle::settle_in` meets its contract. Assumes nothing.
 use mathlib.Core.Path.{◌∙◌}
 use Rattle.keys.proofs.Settled.{settles}
-use borrow.Author.Rules.{rules}
 use Rattle.keys.proofs.settle.settle_in.Goals as goal
 
 pub fill_settled-requires : goal.fill_settled-requires
-fill_settled-requires c = let (shaped, (room, outputs)) = c.requires in
-    let power = c.fill_power.auto.1.1.1.1 in
-    let reach = c.fill_reach.auto.1.1 in (
+fill_settled-requires c =
+    let room = c.requires.room in
+    let outputs = c.requires.outputs in (
       record {
-        base_rows = power.0 ∙ room.base_rows;
-        under_rows = reach.0 ∙ power.1.0 ∙ room.under_rows;
-        keys_rows = reach.1.0 ∙ room.keys_rows;
+        base_rows = c.fill_power.auto.base ∙ room.base_rows;
+        under_rows = c.fill_reach.auto.under ∙ c.fill_power.auto.direct ∙ room.under_rows;
+        keys_rows = c.fill_reach.auto.keys ∙ room.keys_rows;
       },
       outputs.emitted_rows,
       outputs.signal_rows,
@@ -19,7 +18,7 @@ fill_settled-requires c = let (shaped, (room, outputs)) = c.requires in
     )
 
 pub returns : goal.returns
-returns c = let (shaped, _) = c.requires in
-    let (kept, under) = c.fill_reach.ensures in
-    let (signal, (weak, rounds)) = c.fill_settled.ensures in
-    settles shaped c.fill_power.ensures kept under signal weak rounds
+returns c =
+    let reach = c.fill_reach.ensures in
+    let settled = c.fill_settled.ensures in
+    settles c.requires.shaped c.fill_power.ensures reach.keys reach.under settled.signal settled.weak settled.rounds

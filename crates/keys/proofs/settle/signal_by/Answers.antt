@@ -3,7 +3,6 @@ use mathlib.Core.Path.{◌≡◌, sym, ◌∙◌}
 use mathlib.Core.Bool.{true, false}
 use Rattle.blocks.specs.Kind.{is_dust}
 use Rattle.classes.specs.Class.{kind_in}
-use borrow.Author.Rules.{rules}
 use Rattle.keys.proofs.settle.signal_by.Goals as goal
 
 pub returns-then-is_dust_in : goal.returns-then-is_dust_in

@@ -2,7 +2,6 @@
 use mathlib.Core.Path.{sym, ◌∙◌}
 use native.Mathlib.Omega.{arith}
 use borrow.Author.Tests.{eq-eqb, ne_eqb}
-use borrow.Author.Rules.{rules}
 use Rattle.prepare.specs.Arms.{arm_from}
 use Rattle.prepare.proofs.dust_arms.arm_from.Goals as goal
 

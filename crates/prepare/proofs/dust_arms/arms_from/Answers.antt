@@ -1,6 +1,5 @@
 -- `prepare::dust_arms::arms_from` meets its contract. Assumes nothing.
 use native.Mathlib.Omega.{arith}
-use borrow.Author.Rules.{rules}
 use Rattle.prepare.specs.Arms.{arms_from}
 use Rattle.prepare.proofs.dust_arms.arms_from.Goals as goal
 

@@ -1,11 +1,7 @@
 -- Answers of `prepare::dust_arms::fill_arms`.
-use borrow.Author.Rules.{rules}
-use Prim.Native.Nat.{◌+◌, ◌-◌}
 use native.Mathlib.Omega.{arith}
-use lib.ListN.{length}
-use Rattle.columns.specs.Column.{row}
-use Rattle.columns.proofs.Columns.{Filled, filled_none, filled_more, filled_all}
-use Rattle.prepare.specs.Arms.{arms_from, with_arms}
+use Rattle.columns.proofs.Columns.{filled_none, filled_more, filled_all}
+use Rattle.prepare.specs.Arms.{with_arms}
 use Rattle.prepare.proofs.dust_arms.fill_arms.Goals as goal
 
 pub loop-i-init : goal.loop-i-init

@@ -1,15 +1,13 @@
 -- `prepare::dust_arms::fill_arms` meets its contract. The loop's invariant: the first i rows are the rule's. Assumes nothing.
-use borrow.Author.Rules.{rules}
 use Prim.Native.Nat.{◌+◌, ◌-◌}
-use native.Mathlib.Omega.{arith}
 use lib.ListN.{length}
 use Rattle.columns.specs.Column.{row}
-use Rattle.columns.proofs.Columns.{Filled, filled_none, filled_more, filled_all}
-use Rattle.prepare.specs.Arms.{arms_from, with_arms}
+use Rattle.columns.proofs.Columns.{Filled}
+use Rattle.prepare.specs.Arms.{arms_from}
 use Rattle.prepare.proofs.dust_arms.fill_arms.Given as goal
 
 abbrev pub invariant-loop-i : goal.invariant-loop-i
-invariant-loop-i l = Filled (λ l.i. row l.class l.i + arms_from l.table l.near l.class l.i) (length l.class) l.i l.out
+invariant-loop-i l = Filled (λ i. row l.class i + arms_from l.table l.near l.class i) (length l.class) l.i l.out
 
 abbrev pub decreases-loop-i : goal.decreases-loop-i
 decreases-loop-i l = length l.class - l.i

@@ -1,6 +1,5 @@
 -- `prepare::dust_arms::infer` meets its contract: its tests are those of the definition, in order. Assumes nothing.
 use native.Mathlib.Omega.{arith}
-use borrow.Author.Rules.{rules}
 use Rattle.prepare.specs.Arms.{infer_in}
 use Rattle.prepare.proofs.dust_arms.infer.Goals as goal
 

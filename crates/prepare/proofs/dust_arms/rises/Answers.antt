@@ -1,5 +1,4 @@
 -- `prepare::dust_arms::rises` meets its contract. Assumes nothing.
-use borrow.Author.Rules.{rules}
 use Rattle.prepare.specs.Arms.{rises_in}
 use Rattle.prepare.proofs.dust_arms.rises.Goals as goal
 

@@ -15,9 +15,12 @@ settle-rounds-requires c = let after = c in
 
 pub returns : goal.returns
 unfolding fresh_state
-returns c = let last = c in
-    let after = last in
-    let filled = after.fill_fresh_devices.ensures in
-    let done = after.settle-rounds.ensures in
-    let holds = rw filled at done.1 in
-    (rw (holds.weaks, holds.strongs) at last.fill_fresh.ensures, (rw filled at done.0, holds))
+returns c =
+    let filled = c.fill_fresh_devices.ensures in
+    let done = c.settle-rounds.ensures in
+    let holds = rw filled at done.columns in
+    record {
+      next = rw (holds.weaks, holds.strongs) at c.fill_fresh.ensures;
+      rounds = rw filled at done.rounds;
+      columns = holds;
+    }

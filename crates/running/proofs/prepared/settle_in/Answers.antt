@@ -17,6 +17,6 @@ settle-requires c = let s = c in
     )
 
 pub returns : goal.returns
-returns c = let s = c in
-    let (r, h) = settled_table s.requires.0 s.requires.2 (rw c.fill_emitted.ensures at c.settle.ensures) in
-    (r, h)
+returns c =
+    let done = settled_table c.requires.0 c.requires.2 (rw c.fill_emitted.ensures at c.settle.ensures) in
+    record { rounds = done.0; columns = done.1 }

@@ -13,7 +13,7 @@ settle-requires c = let after = c in
     (s.requires.0.accepted, lengths_kept s.requires.1 after.fill_devices.auto.1.1.0 refl refl refl, s.requires.2)
 
 pub returns : goal.returns
-returns c = let after = c in
-    let filled = after.fill_devices.ensures in
-    let done = after.settle.ensures in
-    (rw filled at done.0, settles filled done.1)
+returns c =
+    let filled = c.fill_devices.ensures in
+    let done = c.settle.ensures in
+    record { rounds = rw filled at done.rounds; columns = settles filled done.columns }

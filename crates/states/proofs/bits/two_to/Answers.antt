@@ -1,7 +1,6 @@
 -- `states::bits::two_to` meets its contract. Assumes nothing.
 use native.Mathlib.Omega.{arith}
 use Rattle.states.proofs.Powers.{small_power}
-use borrow.Author.Rules.{rules}
 use Rattle.states.proofs.bits.two_to.Goals as goal
 
 pub returns : goal.returns

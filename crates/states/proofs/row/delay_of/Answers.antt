@@ -1,7 +1,6 @@
 -- `states::row::delay_of` meets its contract. Assumes nothing.
 use native.Mathlib.Omega.{arith}
 use Rattle.states.specs.Row.{delay_of}
-use borrow.Author.Rules.{rules}
 use Rattle.states.proofs.row.delay_of.Goals as goal
 
 pub returns-then-given-lt1 : goal.returns-then-given-lt1

@@ -1,7 +1,6 @@
 -- `states::row::good_had_power` meets its contract. Assumes nothing.
 use borrow.Author.Tests.{eq-eqb, ne_eqb}
 use Rattle.states.specs.Row.{good_had_power}
-use borrow.Author.Rules.{rules}
 use Rattle.states.proofs.row.good_had_power.Goals as goal
 
 pub returns-then-kind_of-eq-COPPER_BULB : goal.returns-then-kind_of-eq-COPPER_BULB

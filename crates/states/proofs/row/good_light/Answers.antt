@@ -1,7 +1,6 @@
 -- `states::row::good_light` meets its contract. Assumes nothing.
 use borrow.Author.Tests.{eq-eqb, ne_eqb}
 use Rattle.states.specs.Row.{good_light}
-use borrow.Author.Rules.{rules}
 use Rattle.states.proofs.row.good_light.Goals as goal
 
 pub returns-then-kind-eq-REDSTONE_LAMP : goal.returns-then-kind-eq-REDSTONE_LAMP

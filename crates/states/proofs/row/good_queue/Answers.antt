@@ -2,7 +2,6 @@
 use borrow.Author.Tests.{eq-eqb, ne_eqb}
 use Rattle.states.specs.Row.{good_queue}
 use Rattle.states.proofs.Powers.{delay_range}
-use borrow.Author.Rules.{rules}
 use Rattle.states.proofs.row.good_queue.Goals as goal
 
 pub two_to-requires : goal.two_to-requires

@@ -1,15 +1,8 @@
 -- Answers of `states::row::good_rest`.
 use mathlib.Core.Path.{◌≡◌, refl, sym}
-use mathlib.Core.Bool.{Bool, true}
-use mathlib.Core.List.{List}
-use Prim.Native.Nat.{ℕ, ◌+◌, ◌≤◌, ◌-◌}
 use native.Mathlib.Omega.{arith}
-use lib.ListN.{get_or}
-use lib.Dec.{eqb}
 use borrow.Author.Tests.{eq-eqb, ne_eqb}
-use Rattle.columns.specs.First.{all_below}
 use Rattle.columns.proofs.First.{all_more, all_fails}
-use borrow.Author.Rules.{rules}
 use Rattle.states.proofs.row.good_rest.Invariants.{clear}
 use Rattle.states.proofs.row.good_rest.Goals as goal
 

@@ -1,15 +1,11 @@
 -- `states::row::good_rest` meets its contract. The loop's invariant: the bytes passed are 0. Assumes nothing.
-use mathlib.Core.Path.{◌≡◌, refl, sym}
+use mathlib.Core.Path.{◌≡◌}
 use mathlib.Core.Bool.{Bool, true}
 use mathlib.Core.List.{List}
 use Prim.Native.Nat.{ℕ, ◌+◌, ◌≤◌, ◌-◌}
-use native.Mathlib.Omega.{arith}
 use lib.ListN.{get_or}
 use lib.Dec.{eqb}
-use borrow.Author.Tests.{eq-eqb, ne_eqb}
 use Rattle.columns.specs.First.{all_below}
-use Rattle.columns.proofs.First.{all_more, all_fails}
-use borrow.Author.Rules.{rules}
 use Rattle.states.proofs.row.good_rest.Given as goal
 
 abbrev pub clear : List ℕ → ℕ → Bool

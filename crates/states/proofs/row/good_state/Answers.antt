@@ -1,6 +1,5 @@
 -- `states::row::good_state` meets its contract. Assumes nothing.
 use Rattle.states.specs.Row.{good_state}
-use borrow.Author.Rules.{rules}
 use Rattle.states.proofs.row.good_state.Goals as goal
 
 pub returns : goal.returns

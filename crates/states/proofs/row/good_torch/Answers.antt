@@ -1,7 +1,6 @@
 -- `states::row::good_torch` meets its contract. Assumes nothing.
 use borrow.Author.Tests.{eq-eqb, ne_eqb}
 use Rattle.states.specs.Row.{good_torch}
-use borrow.Author.Rules.{rules}
 use Rattle.states.proofs.row.good_torch.Goals as goal
 
 pub returns-then-kind_of-eq-REDSTONE_TORCH : goal.returns-then-kind_of-eq-REDSTONE_TORCH

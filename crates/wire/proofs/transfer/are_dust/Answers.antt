@@ -1,5 +1,4 @@
 -- `wire::transfer::are_dust` meets its contract. Assumes nothing.
-use borrow.Author.Rules.{rules}
 use Rattle.wire.proofs.transfer.are_dust.Goals as goal
 
 pub returns : goal.returns

@@ -1,14 +1,9 @@
 -- `wire::transfer::dust_transfer` meets its contract, by what the two look-ups find. Each loop's invariant: nothing is found yet, and the answer is that of the facings and heights that are left. Assumes nothing.
-use mathlib.Core.Path.{◌≡◌, refl, sym, ◌∙◌}
+use mathlib.Core.Path.{◌≡◌}
 use Prim.Native.Nat.{◌+◌, ◌-◌, ◌≤◌}
-use native.Mathlib.Omega.{arith}
-use borrow.Author.Tests.{not-true, not-false}
-use borrow.Author.Rules.{rules}
 use Rattle.wire.specs.declared.transfer.DustTransfer.TheVariants.{NoTransfer}
 use Rattle.arms.specs.Arms.{arm_of}
-use Rattle.wire.specs.Transfer.{transfer_by, transfer_of, dust_transfer}
-use Rattle.wire.proofs.Found.{transfer_found}
-use Rattle.wire.proofs.Turns.{from_facing, from_step, from_first, enter, hit, miss, out, done}
+use Rattle.wire.proofs.Turns.{from_facing, from_step}
 use Rattle.wire.proofs.transfer.dust_transfer.Given as goal
 
 abbrev pub invariant-heights : goal.invariant-heights

@@ -1,5 +1,4 @@
 -- `wire::transfer::dust_transmits` meets its contract. Assumes nothing.
-use borrow.Author.Rules.{rules}
 use Rattle.wire.specs.Transfer.{dust_transmits}
 use Rattle.wire.proofs.transfer.dust_transmits.Goals as goal
 

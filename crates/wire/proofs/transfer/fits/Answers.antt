@@ -1,6 +1,6 @@
 -- `wire::transfer::fits` meets its contract: in each arm the number is the arm's, or none of them. Assumes nothing.
+use native.Mathlib.Omega.{arith}
 use borrow.Author.Tests.{ne_eqb}
-use borrow.Author.Rules.{rules}
 use Rattle.wire.specs.Transfer.{fits}
 use Rattle.wire.proofs.transfer.fits.Goals as goal
 
@@ -14,5 +14,4 @@ returns-in-1 c = rw c.in-1.is c.fits_rise.ensures
 
 pub returns-in_default : goal.returns-in_default
 unfolding fits
-returns-in_default c = let none = c.in_default.in_default-own.rest in
-    rw (ne_eqb _ 0 none.0.1, ne_eqb _ 1 none.1) c.fits_fall.ensures
+returns-in_default c = rw (ne_eqb c.args.height 0 (λ e. omega arith), ne_eqb c.args.height 1 (λ e. omega arith)) c.fits_fall.ensures

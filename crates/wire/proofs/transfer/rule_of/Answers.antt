@@ -1,4 +1,5 @@
 -- `wire::transfer::rule_of` meets its contract: in each arm the number is the arm's, or none of them. Assumes nothing.
+use native.Mathlib.Omega.{arith}
 use borrow.Author.Tests.{ne_eqb}
 use Rattle.wire.proofs.transfer.rule_of.Goals as goal
 
@@ -9,4 +10,4 @@ pub returns-in-1 : goal.returns-in-1
 returns-in-1 c = rw c.in-1.is
 
 pub returns-in_default : goal.returns-in_default
-returns-in_default c = rw (ne_eqb _ 0 c.in_default.in_default-own.rest.0.1, ne_eqb _ 1 c.in_default.in_default-own.rest.1)
+returns-in_default c = rw (ne_eqb c.args.height 0 (λ e. omega arith), ne_eqb c.args.height 1 (λ e. omega arith))

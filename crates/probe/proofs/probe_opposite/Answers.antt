@@ -1,0 +1,6 @@
+-- `probe::probe_opposite` meets its contract. Assumes nothing.
+use borrow.Author.Rules.{rules}
+use Rattle.probe.proofs.probe_opposite.Goals as goal
+
+pub returns : goal.returns
+returns c = rw (c.opposite.ensures, c.facing_of.ensures)
