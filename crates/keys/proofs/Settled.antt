@@ -17,7 +17,7 @@ use Rattle.network.specs.Laws.Loop.{Answered}
 use Rattle.network.specs.Laws.Keys.{level_of, round_of, OnDust, Keys, base, under_key, last_dust, last_weak, rounds_by, settled_signal, settled_weak, keys_rounds}
 use Rattle.circuit.specs.declared.Edge.{Edge}
 use Rattle.circuit.specs.declared.Edge.TheVariants.{DustToWeak, Transmits, EmittedToDust, StrongToDust}
-use Rattle.circuit.specs.Circuit.{Shaped, edge_in, circuit, signals_in}
+use Rattle.circuit.specs.Circuit.{Shaped, edge_in, circuit}
 use Rattle.circuit.proofs.Ends.{receives_in, edge_ends, none_received, circuit_on_map}
 use Rattle.power.specs.Power.{base_of, direct_of, Powered}
 use Rattle.power.proofs.Mapped.{unmapped_is}
@@ -117,7 +117,7 @@ module _ {near class : Column} (shaped : Shaped near class) where
     rounds_are = keys_rounds N on_dust (circuit_on_map shaped) e x keys_are ∙ rw (last-dust, last-weak, unmapped_is near class)
 
     signal_is : signals_by class e x ≡ (settled N e).signal
-    unfolding circuit signals_in signals
+    unfolding circuit signals_by signals
     signal_is = sym (settled_signal N on_dust (circuit_on_map shaped) e x keys_are)
 
     weak_is : weak_by (base_of N (strong_of N e)) (under_of near class x) ≡ (settled N e).weak

@@ -4,8 +4,10 @@ use Rattle.std.specs.Prelude.{◌≡◌, cond, ℕ, ◌+◌, max, length}
 use Rattle.columns.specs.Column.{Column, row, tabulate}
 use Rattle.network.specs.Levels.{arriving}
 use Rattle.network.specs.Laws.Keys.{level_of}
+use Rattle.blocks.specs.Kind.{is_dust}
 use Rattle.circuit.specs.declared.Edge.TheVariants.{DustToWeak}
-use Rattle.circuit.specs.Circuit.{edge_in, signals_in}
+use Rattle.classes.specs.Class.{kind_in}
+use Rattle.circuit.specs.Circuit.{edge_in}
 use Rattle.power.specs.Power.{none_mapped}
 use Rattle.keys.specs.Rounds.{last_of, last_shown}
 
@@ -14,8 +16,8 @@ unfoldable pub under_of : Column → Column → Column → Column
 under_of near class keys = tabulate (length class) (arriving (length class) (edge_in near class DustToWeak) (row keys))
 
 -- the level of dust is that of its key; "Every other row's signal is its emitted level"
-abbrev pub signals_by : Column → Column → Column → Column
-signals_by class e keys = signals_in class e (λ i. level_of (row keys i))
+unfoldable pub signals_by : Column → Column → Column → Column
+signals_by class e keys = tabulate (length class) (λ i. cond (is_dust (kind_in (row class i))) (level_of (row keys i)) (row e i))
 
 -- weak power from strong power, or from dust
 unfoldable pub weak_by : Column → Column → Column

@@ -21,7 +21,7 @@ use world::row::rows;
 
 // How the settled numbers are found: both ways have the same contract.
 #[derive(Drop)]
-enum Way {
+pub enum Way {
     Keys,
     Rounds,
 }
