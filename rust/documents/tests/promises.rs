@@ -164,7 +164,9 @@ fn every_path_that_a_document_names_is_there() {
     for document in documents {
         let content = text(&document);
         for word in paths_in(&content) {
-            assert!(path(word).exists(), "{document} names {word}, which is not there");
+            // What a build leaves in a crate's out/ comes and goes; the crate is to be there.
+            let kept = word.split("/out/").next().unwrap_or(word);
+            assert!(path(kept).exists(), "{document} names {word}, which is not there");
             named += 1;
         }
     }

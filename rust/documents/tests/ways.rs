@@ -3,8 +3,10 @@
 use documents::{listed, text};
 
 /// What calls what, from the C calls down to `keys` and to `rounds`: a file, a function, and what its body has.
-const CALLS: [(&str, &str, &str); 8] = [
+const CALLS: [(&str, &str, &str); 10] = [
+    ("redstone_c/src/lib.rt", "redstone_settle", "redstone::redstone_settle("),
     ("redstone/src/lib.rt", "redstone_settle", "solver::solve_instantaneous("),
+    ("probe_c/src/lib.rt", "probe_settle_by_rounds", "probe::probe_settle_by_rounds("),
     ("probe/src/lib.rt", "probe_settle_by_rounds", "solver::solve_by_rounds("),
     ("solver/src/lib.rt", "solve_instantaneous", "settle(Way::Keys,"),
     ("solver/src/lib.rt", "solve_by_rounds", "settle(Way::Rounds,"),

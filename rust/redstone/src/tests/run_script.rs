@@ -1,4 +1,4 @@
-//! `make run` and `make month`, in small repositories.
+//! `make run`, `make month` and `bin/staticlib`, in small repositories.
 
 use std::env;
 use std::fs;
@@ -12,7 +12,7 @@ use super::repository::{Repository, without_times};
 fn repository(name: &str, does: Option<&str>) -> Repository {
     let repository = Repository::new(name);
     let root = Path::new(env!("CARGO_MANIFEST_DIR")).join("../..");
-    for name in ["Makefile", "bin/run"] {
+    for name in ["Makefile", "bin/run", "bin/staticlib"] {
         fs::copy(root.join(name), repository.path(name)).expect("a file of the repository");
     }
     repository.write("crates/settle/stdin", "the sample");
@@ -102,4 +102,32 @@ fn a_month_is_built_and_counted_so_too() {
     assert_eq!(written, "another stream");
     let (well, _, said) = make(&repository, &repository.search_path(), &["month", "STREAM=nowhere"]);
     assert!(!well && said.starts_with("make month: there is no file nowhere; give one as STREAM="), "{said}");
+}
+
+/// What `bin/staticlib` writes of a library: whether it ended well, and its errors.
+fn staticlib(repository: &Repository, words: &[&str]) -> (bool, String) {
+    let mut script = Command::new(repository.path("bin/staticlib"));
+    let output =
+        script.args(words).env("PATH", repository.search_path()).output().expect("the script can be run");
+    (output.status.success(), String::from_utf8_lossy(&output.stderr).into_owned())
+}
+
+#[test]
+fn a_static_library_is_put_where_it_is_linked_from() {
+    let repository = repository("staticlib", Some("mkdir -p out; echo built >out/libredstone_c.a"));
+    let library = repository.path("target/staticlib/libredstone.a");
+    let (well, said) = staticlib(&repository, &["redstone"]);
+    assert!(well && said.is_empty(), "{said}");
+    assert_eq!(repository.called().as_deref(), Some("redstone_c: lib\n"));
+    assert_eq!(fs::read_to_string(&library).expect("a library"), "built\n");
+    let beside = fs::read_dir(library.parent().expect("a folder")).expect("a folder").count();
+    assert_eq!(beside, 1, "only the library is there");
+
+    repository.rt("echo 'it is not proved'; exit 1");
+    let (well, said) = staticlib(&repository, &["redstone"]);
+    assert!(!well && said.starts_with("staticlib: 'rt lib' failed in crates/redstone_c"), "{said}");
+    assert_eq!(fs::read_to_string(&library).expect("the library of before"), "built\n");
+
+    let (well, said) = staticlib(&repository, &["other"]);
+    assert!(!well && said.starts_with("staticlib: there is no crate crates/other_c"), "{said}");
 }
