@@ -25,7 +25,7 @@ use Rattle.updates.specs.Tick.{with_devices, with_lights, settled_of, set_device
 use Rattle.running.specs.Running.{ColumnLengths, Room, Ready, HoldsSettled, Settled}
 use Rattle.running.proofs.Many.{ticks_none, ticks_next}
 use Rattle.running.proofs.States.{length_ticks, tick_devices}
-use Rattle.running.proofs.Valid.{valid_state, set_devices_valid, ticks_valid}
+use Rattle.running.proofs.Valid.{valid_state, devices_of_valid, set_devices_valid, ticks_valid}
 
 -- ---- settling
 
@@ -91,7 +91,7 @@ module _ {t : Bytes} {d signal weak strong d' signal' weak' strong' : Column} wh
 -- ---- a state that is ready to be settled
 
 pub ready : (p t st : Bytes) → IsAccepted p t → IsValidState t st → Ready p t st
-ready p t st a v = record { accepted = a; long = (valid_state t st v).sized }
+ready p t st a v = record { accepted = a; long = (valid_state t st v).sized; valid = devices_of_valid t st v }
 
 -- and so is the state once its devices are set
 pub ready_next : (p t st st₁ : Bytes) → st₁ ≡ set_devices p t st → IsAccepted p t → IsValidState t st → Ready p t st₁

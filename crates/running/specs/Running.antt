@@ -4,6 +4,7 @@ use Rattle.std.specs.Prelude.{◌≡◌, ◌*◌, length}
 use Rattle.columns.specs.Column.{Bytes, Column}
 use Rattle.world.specs.Rows.{rows}
 use Rattle.refusals.specs.Check.{IsAccepted}
+use Rattle.emitted.specs.Emitted.{IsValid}
 use Rattle.electrical.specs.Answer.{settled}
 use Rattle.classes.specs.Towards.{places}
 use Rattle.updates.specs.State.{devices_of}
@@ -20,10 +21,11 @@ pub record Room (t : Bytes) (near class : Column) : Type 0 where
   pub near_rows : length near ≡ places * rows t
   pub class_rows : length class ≡ rows t
 
--- The table is accepted, and the state st has sixteen bytes a row.
+-- The table is accepted, and the state st has sixteen bytes a row, with valid devices.
 pub record Ready (p t st : Bytes) : Type 0 where
   pub accepted : IsAccepted p t
   pub long : length st ≡ rows t * 16
+  pub valid : IsValid t (devices_of t st)
 
 -- The output columns hold what the devices d settle to.
 pub record HoldsSettled (p t : Bytes) (d signal weak strong : Column) : Type 0 where

@@ -24,9 +24,9 @@ use Rattle.updates.specs.State.{devices_of, IsValidState, check_state}
 use Rattle.running.specs.Running.{ColumnLengths, Ready, HoldsSettled}
 use Rattle.switching.specs.Switch.{switched}
 use Rattle.updates.specs.Calls.{check_fresh, check_step, check_tick}
-use Rattle.running.proofs.Valid.{valid_state}
+use Rattle.running.proofs.Valid.{valid_state, devices_of_valid}
 use Rattle.switching.proofs.Switched.{switched_alike, switched_accepted}
-use Rattle.sim.proofs.Switching.{switched_devices}
+use Rattle.sim.proofs.Switching.{switched_devices, switched_valid}
 
 -- ---- what a call has that passes its checks
 
@@ -101,6 +101,7 @@ module _ {p t u st : Bytes} {q : Pos} {power : ℕ} {signal weak strong : Column
       record {
         accepted = rw e (switched_accepted t q power p v.accepted);
         long = rw switched_rows (valid_state t st v.state).sized;
+        valid = rw (switched_same, e) (switched_valid t q power (devices_of t st) (devices_of_valid t st v.state));
       }
 
   pub switch_outputs : Outputs (rows u) signal weak strong
