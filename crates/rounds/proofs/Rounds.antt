@@ -25,7 +25,7 @@ use Rattle.round.specs.Round.{next_signals, next_weaks}
 use Rattle.rounds.specs.Prepared.{Prepared, Room, Turns}
 use Rattle.rounds.specs.Outcome.{settled_in, outcome_of, written_by, RunsRounds, Solves}
 use Rattle.rounds.specs.declared.Outcome.{Outcome}
-use Rattle.rounds.specs.declared.Outcome.TheVariants.{Settled, Unsettled}
+use Rattle.rounds.specs.declared.Outcome.TheVariants.{Unsettled}
 
 -- ---- a round
 

@@ -1,7 +1,7 @@
 -- Answers of `rounds::run::run`.
 use native.Mathlib.Omega.{arith}
 use borrow.Author.Rules.{rules}
-use Rattle.rounds.proofs.Rounds.{Turning, turning_start, turning_stops, turning_on, ran_unsettled}
+use Rattle.rounds.proofs.Rounds.{turning_start, turning_stops, turning_on, ran_unsettled}
 use Rattle.rounds.proofs.run.run.Goals as goal
 
 pub loop-left-init : goal.loop-left-init

@@ -1,7 +1,5 @@
 -- `rounds::run::run` meets its contract. The loop's invariant: none of the rounds so far answered, and s0 and w0 are what they left. Assumes nothing.
-use native.Mathlib.Omega.{arith}
-use borrow.Author.Rules.{rules}
-use Rattle.rounds.proofs.Rounds.{Turning, turning_start, turning_stops, turning_on, ran_unsettled}
+use Rattle.rounds.proofs.Rounds.{Turning}
 use Rattle.rounds.proofs.run.run.Given as goal
 
 abbrev pub invariant-loop-left : goal.invariant-loop-left

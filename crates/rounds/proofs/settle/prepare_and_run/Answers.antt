@@ -1,6 +1,5 @@
 -- `rounds::settle::prepare_and_run` meets its contract. Assumes nothing.
 use mathlib.Core.Path.{◌∙◌}
-use borrow.Author.Rules.{rules}
 use Rattle.rounds.proofs.settle.prepare_and_run.Goals as goal
 
 pub run_over-requires : goal.run_over-requires

@@ -1,6 +1,5 @@
 -- `rounds::settle::run_over` meets its contract. Assumes nothing.
 use mathlib.Core.Path.{sym}
-use borrow.Author.Rules.{rules}
 use Rattle.rounds.proofs.Lending.{front}
 use Rattle.rounds.proofs.settle.run_over.Goals as goal
 

@@ -1,5 +1,4 @@
 -- `rounds::settle::write` meets its contract, by how settling ended. Assumes nothing.
-use borrow.Author.Rules.{rules}
 use Rattle.rounds.proofs.settle.write.Goals as goal
 
 pub returns-in-Settled : goal.returns-in-Settled
