@@ -1,6 +1,6 @@
 -- The numbers by which the probe's calls answer what the inner functions answer as enums, structs and bools.
 -- Assumes nothing.
-use Rattle.std.specs.Prelude.{Bool, true, false, cond, ℕ, ◌+◌, ◌*◌, eqb, leb, ℤ, pos}
+use Rattle.std.specs.Prelude.{Bool, cond, ℕ, ◌+◌, ◌*◌, eqb, leb, ℤ, pos}
 use Rattle.columns.specs.declared.Found.{Found}
 use Rattle.columns.specs.declared.Found.TheVariants.{At, Nothing}
 use Rattle.columns.specs.Column.{Bytes}

@@ -1,5 +1,4 @@
 -- `feeders::check_feeders` meets its contract. Assumes nothing.
-use borrow.Author.Rules.{rules}
 use Rattle.feeders.specs.Feeds.{check_feeders}
 use Rattle.feeders.proofs.check_feeders.Goals as goal
 

@@ -1,10 +1,8 @@
 -- `feeders::feeders` meets its contract, by what the checks answer. Assumes nothing.
 use mathlib.Core.Path.{refl, sym, ◌∙◌}
 use native.Mathlib.Omega.{arith}
-use lib.ListN.{length}
-use borrow.Author.Rules.{rules}
 use Rattle.refusals.proofs.Accepted.{accepted_input}
-use Rattle.feeders.proofs.Checks.{Given, given, feeders_accepted}
+use Rattle.feeders.proofs.Checks.{given, feeders_accepted}
 use Rattle.feeders.proofs.feeders.Goals as goal
 
 pub returns-in-Refused : goal.returns-in-Refused

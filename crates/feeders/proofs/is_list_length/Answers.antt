@@ -1,5 +1,4 @@
 -- `feeders::is_list_length` meets its contract. Assumes nothing.
-use borrow.Author.Rules.{rules}
 use Rattle.feeders.proofs.is_list_length.Goals as goal
 
 pub returns : goal.returns

@@ -1,10 +1,7 @@
 -- Answers of `feeders::list_feeders`.
 use mathlib.Core.Path.{sym, ◌∙◌}
-use Prim.Native.Nat.{◌-◌}
 use native.Mathlib.Omega.{arith}
-use borrow.Author.Rules.{rules}
-use Rattle.feeding.specs.Around.{feeder_in}
-use Rattle.feeders.proofs.Fed.{Fed, fed_none, fed_room, fed_pass, fed_more, fed_all}
+use Rattle.feeders.proofs.Fed.{fed_none, fed_room, fed_pass, fed_more, fed_all}
 use Rattle.feeders.proofs.list_feeders.Goals as goal
 use Rattle.feeders.proofs.list_feeders.Goals.{then-feeder, else-feeder}
 
@@ -23,9 +20,9 @@ overflow_add-count c = omega (arith, fed_room c.loop-k.invariant (omega arith))
 pub loop-k-preserved : goal.loop-k-preserved
 loop-k-preserved c = let h = c.loop-k.invariant in
     let slot = c.feeder_at-feeder.ensures in
-    elim c.if-feeder.branch
-    [ then-feeder w ↦ rw (w.entries-is, w.count-is) (fed_more h (omega arith) _ slot w.if-feeder.true)
-    | else-feeder w ↦ rw (w.entries-is, w.count-is) (fed_pass h (omega arith) (sym slot ∙ w.if-feeder.false))
+    elim c.if-feeder.branch [
+      | then-feeder w ↦ rw (w.entries-is, w.count-is) (fed_more h (omega arith) _ slot w.if-feeder.true)
+      | else-feeder w ↦ rw (w.entries-is, w.count-is) (fed_pass h (omega arith) (sym slot ∙ w.if-feeder.false))
     ]
 
 pub returns : goal.returns

@@ -1,11 +1,7 @@
 -- `feeders::list_feeders` meets its contract. The loop's invariant: at the front are the feeders at the positions passed. Assumes nothing.
-use mathlib.Core.Path.{sym, ◌∙◌}
-use mathlib.Core.Logic.{⊎_elim}
 use Prim.Native.Nat.{◌-◌}
-use native.Mathlib.Omega.{arith}
-use borrow.Author.Rules.{rules}
 use Rattle.feeding.specs.Around.{feeder_in}
-use Rattle.feeders.proofs.Fed.{Fed, fed_none, fed_room, fed_pass, fed_more, fed_all}
+use Rattle.feeders.proofs.Fed.{Fed}
 use Rattle.feeders.proofs.list_feeders.Given as goal
 
 abbrev pub invariant-loop-k : goal.invariant-loop-k

@@ -1,9 +1,6 @@
 -- `feeders::write_entries` meets its contract. Assumes nothing.
-use mathlib.Core.Path.{◌≡◌, ap, sym, ◌∙◌}
-use lib.ListN.{replicate}
-use borrow.Author.Rules.{rules}
+use mathlib.Core.Path.{ap, sym, ◌∙◌}
 use Rattle.columns.specs.Column.{at_front}
-use Rattle.circuit.specs.Circuit.{no_row}
 use Rattle.feeding.specs.Around.{rows_among, feeder_in, entries_in}
 use Rattle.feeders.proofs.Fed.{blank, entries_none}
 use Rattle.feeders.proofs.write_entries.Goals as goal

@@ -1,6 +1,5 @@
 -- `feeders::write_in` meets its contract. Assumes nothing.
 use mathlib.Core.Path.{◌∙◌}
-use borrow.Author.Rules.{rules}
 use Rattle.feeding.proofs.Listed.{list_found}
 use Rattle.feeders.proofs.write_in.Goals as goal
 

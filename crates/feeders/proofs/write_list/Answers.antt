@@ -1,11 +1,7 @@
 -- Answers of `feeders::write_list`.
-use mathlib.Core.Path.{◌≡◌, refl, ◌∙◌}
-use Prim.Native.Nat.{◌-◌, ◌≤◌}
+use mathlib.Core.Path.{refl, ◌∙◌}
 use native.Mathlib.Omega.{arith}
-use lib.ListN.{length}
-use borrow.Author.Rules.{rules}
-use Rattle.columns.proofs.Parts.{Written, written_none, written_more, written_all}
-use Rattle.feeding.specs.Around.{entries_in}
+use Rattle.columns.proofs.Parts.{written_none, written_more, written_all}
 use Rattle.feeders.proofs.Fed.{entries_long}
 use Rattle.feeders.proofs.write_list.Goals as goal
 

@@ -1,12 +1,9 @@
 -- `feeders::write_list` meets its contract. The loop's invariant: the entries of the rows passed are written. Assumes nothing.
-use mathlib.Core.Path.{◌≡◌, refl, ◌∙◌}
+use mathlib.Core.Path.{◌≡◌}
 use Prim.Native.Nat.{◌-◌, ◌≤◌}
-use native.Mathlib.Omega.{arith}
 use lib.ListN.{length}
-use borrow.Author.Rules.{rules}
-use Rattle.columns.proofs.Parts.{Written, written_none, written_more, written_all}
+use Rattle.columns.proofs.Parts.{Written}
 use Rattle.feeding.specs.Around.{entries_in}
-use Rattle.feeders.proofs.Fed.{entries_long}
 use Rattle.feeders.proofs.write_list.Given as goal
 
 abbrev pub invariant-loop-i : goal.invariant-loop-i

@@ -4,7 +4,6 @@ use Prim.Native.Nat.{◌*◌, ◌-◌, ◌≤◌}
 use native.Mathlib.Omega.{arith}
 use lib.ListN.{replicate}
 use lib.Seq.{length-take-le}
-use borrow.Author.Rules.{rules}
 use Rattle.feeders.proofs.write_table.Goals as goal
 
 pub write_in-requires : goal.write_in-requires

@@ -1,5 +1,4 @@
 -- `replace::at_most_two_apart` meets its contract. Assumes nothing.
-use borrow.Author.Rules.{rules}
 use Rattle.places.proofs.Signs.{back32}
 use Rattle.replace.proofs.at_most_two_apart.Goals as goal
 

@@ -4,7 +4,6 @@ use borrow.Author.Tests.{eq-eqb, ne_eqb}
 use Rattle.refusals.specs.Check.{is_bad, is_overdriven}
 use Rattle.refusals.proofs.Passed.{row_fits, refuse_one, row_unless_then}
 use Rattle.replace.specs.Replace.{check_new}
-use borrow.Author.Rules.{rules}
 use Rattle.replace.proofs.check_new.Goals as goal
 
 pub returns-then-new-ne-WIDTH : goal.returns-then-new-ne-WIDTH

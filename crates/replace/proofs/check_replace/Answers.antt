@@ -1,5 +1,4 @@
 -- `replace::check_replace` meets its contract. Assumes nothing.
-use borrow.Author.Rules.{rules}
 use Rattle.replace.specs.Replace.{check_replace}
 use Rattle.replace.proofs.check_replace.Goals as goal
 

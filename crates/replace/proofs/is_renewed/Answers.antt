@@ -1,6 +1,5 @@
 -- `replace::is_renewed` meets its contract. Assumes nothing.
 use mathlib.Core.Path.{sym, ◌∙◌}
-use borrow.Author.Rules.{rules}
 use borrow.Author.Tests.{eq-eqb, ne_eqb}
 use Rattle.feeding.specs.Replaced.{is_renewed}
 use Rattle.replace.proofs.is_renewed.Goals as goal

@@ -2,15 +2,13 @@
 use mathlib.Core.Path.{◌≡◌, refl, ap, sym, ◌∙◌}
 use Prim.Native.Nat.{◌*◌}
 use native.Mathlib.Omega.{arith}
-use lib.ListN.{length}
 use lib.Seq.{take_all}
-use borrow.Author.Rules.{rules}
 use borrow.Rule.Slice.PartMut.{put_mid}
 use Rattle.world.specs.Rows.{rows}
 use Rattle.refusals.proofs.Accepted.{accepted_input}
-use Rattle.feeding.specs.Replaced.{replaced, updated_list}
+use Rattle.feeding.specs.Replaced.{updated_list}
 use Rattle.feeding.proofs.Replacing.{replaced_put, replaced_rows}
-use Rattle.replace.proofs.Checks.{Given, given, replace_accepted}
+use Rattle.replace.proofs.Checks.{given, replace_accepted}
 use Rattle.replace.proofs.replace.Goals as goal
 
 pub returns-in-Refused : goal.returns-in-Refused

@@ -1,5 +1,4 @@
 -- `replace::stands_at_row` meets its contract. Assumes nothing.
-use borrow.Author.Rules.{rules}
 use Rattle.replace.proofs.stands_at_row.Goals as goal
 
 pub returns : goal.returns

@@ -1,6 +1,5 @@
 -- `replace::update_in` meets its contract. Assumes nothing.
 use mathlib.Core.Path.{◌∙◌}
-use borrow.Author.Rules.{rules}
 use Rattle.feeding.proofs.Updated.{updated_found}
 use Rattle.replace.proofs.update_in.Goals as goal
 

@@ -4,7 +4,6 @@ use Prim.Native.Nat.{◌*◌, ◌-◌, ◌≤◌}
 use native.Mathlib.Omega.{arith}
 use lib.ListN.{replicate}
 use lib.Seq.{length-take-le}
-use borrow.Author.Rules.{rules}
 use Rattle.replace.proofs.update_list.Goals as goal
 
 pub update_in-requires : goal.update_in-requires

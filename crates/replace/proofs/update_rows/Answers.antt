@@ -1,12 +1,9 @@
 -- Answers of `replace::update_rows`.
-use mathlib.Core.Path.{◌≡◌, refl, sym, ◌∙◌}
-use Prim.Native.Nat.{◌*◌, ◌-◌, ◌≤◌}
+use mathlib.Core.Path.{refl, sym, ◌∙◌}
+use Prim.Native.Nat.{◌*◌}
 use native.Mathlib.Omega.{arith}
-use lib.ListN.{length}
-use borrow.Author.Rules.{rules}
 use borrow.Rule.Slice.PartMut.{same_len_mid}
-use Rattle.columns.proofs.Parts.{length_part, Written, written_none, written_more, written_skip, written_all}
-use Rattle.world.specs.Rows.{rows}
+use Rattle.columns.proofs.Parts.{length_part, written_none, written_more, written_skip, written_all}
 use Rattle.feeding.specs.Around.{entries_in, updated_in}
 use Rattle.feeders.proofs.Fed.{entries_long}
 use Rattle.replace.proofs.update_rows.Goals as goal
@@ -24,16 +21,16 @@ loop-i-preserved c = let l = c in
     let list_long = l.requires.class_len.1 in
     let lent = length_part 12 l.loop-i.list l.loop-i.i (omega (arith, l.loop-i.invariant.1)) in
     let renewed = c.is_renewed.ensures in
-    elim c.if-is_renewed.branch
-    [ then-is_renewed w ↦
-      rw (w.list-is ∙ w.write_row.ensures) (
-        omega arith,
-        same_len_mid (l.loop-i.i * 12) 12 l.loop-i.list entries (twelve ∙ sym lent) ∙ l.loop-i.invariant.1,
-        written_more l.loop-i.invariant.2 {r = entries} (rw (← renewed, w.if-is_renewed.true)) twelve,
-      )
-    | else-is_renewed w ↦
-      rw w.list-is
-      (omega arith, l.loop-i.invariant.1, written_skip l.loop-i.invariant.2 (rw (← renewed, w.if-is_renewed.false)) (omega arith))
+    elim c.if-is_renewed.branch [
+      | then-is_renewed w ↦
+          rw (w.list-is ∙ w.write_row.ensures) (
+            omega arith,
+            same_len_mid (l.loop-i.i * 12) 12 l.loop-i.list entries (twelve ∙ sym lent) ∙ l.loop-i.invariant.1,
+            written_more l.loop-i.invariant.2 {r = entries} (rw (← renewed, w.if-is_renewed.true)) twelve,
+          )
+      | else-is_renewed w ↦
+          rw w.list-is
+          (omega arith, l.loop-i.invariant.1, written_skip l.loop-i.invariant.2 (rw (← renewed, w.if-is_renewed.false)) (omega arith))
     ]
 
 pub shape_of-list : goal.shape_of-list

@@ -1,15 +1,10 @@
 -- `replace::update_rows` meets its contract. The loop's invariant: of the rows passed, the entries are those of the updated list. Assumes nothing.
-use mathlib.Core.Path.{◌≡◌, refl, sym, ◌∙◌}
-use mathlib.Core.Logic.{⊎_elim}
-use Prim.Native.Nat.{◌*◌, ◌-◌, ◌≤◌}
-use native.Mathlib.Omega.{arith}
+use mathlib.Core.Path.{◌≡◌}
+use Prim.Native.Nat.{◌-◌, ◌≤◌}
 use lib.ListN.{length}
-use borrow.Author.Rules.{rules}
-use borrow.Rule.Slice.PartMut.{same_len_mid}
-use Rattle.columns.proofs.Parts.{length_part, Written, written_none, written_more, written_skip, written_all}
+use Rattle.columns.proofs.Parts.{Written}
 use Rattle.world.specs.Rows.{rows}
-use Rattle.feeding.specs.Around.{entries_in, updated_in}
-use Rattle.feeders.proofs.Fed.{entries_long}
+use Rattle.feeding.specs.Around.{updated_in}
 use Rattle.replace.proofs.update_rows.Given as goal
 
 abbrev pub invariant-loop-i : goal.invariant-loop-i

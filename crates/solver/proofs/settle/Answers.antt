@@ -1,5 +1,4 @@
 -- `solver::settle` meets its contract, by what its checks say. Assumes nothing.
-use borrow.Author.Rules.{rules}
 use Rattle.solver.proofs.Answering.{passes, answers_solved, answers_refused}
 use Rattle.solver.proofs.settle.Goals as goal
 

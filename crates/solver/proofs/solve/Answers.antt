@@ -3,9 +3,7 @@ use mathlib.Core.Path.{sym, ◌∙◌}
 use Prim.Native.Nat.{◌*◌, ◌≤◌}
 use native.Mathlib.Omega.{arith}
 use Rattle.columns.proofs.Columns.{length_zeros}
-use Rattle.refusals.specs.Accepted.{Table}
 use Rattle.solver.proofs.Answering.{passed_call}
-use borrow.Author.Rules.{rules}
 use Rattle.solver.proofs.solve.Goals as goal
 
 pub slice_bounds-near-end : goal.slice_bounds-near-end

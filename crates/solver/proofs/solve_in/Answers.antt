@@ -1,10 +1,6 @@
 -- `solver::solve_in` meets its contract. Assumes nothing.
-use Rattle.rounds.specs.Prepared.{Outputs}
-use Rattle.world.specs.Rows.{rows}
-use Rattle.refusals.specs.Accepted.{Table}
 use Rattle.solver.proofs.Answering.{passed_call}
 use Rattle.solver.proofs.Solving.{columns, table_solves}
-use borrow.Author.Rules.{rules}
 use Rattle.solver.proofs.solve_in.Goals as goal
 
 pub prepare-requires : goal.prepare-requires

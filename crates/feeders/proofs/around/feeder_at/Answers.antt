@@ -1,5 +1,4 @@
 -- `feeders::around::feeder_at` meets its contract. Assumes nothing.
-use borrow.Author.Rules.{rules}
 use Rattle.circuit.specs.declared.Edge.TheVariants.{Transmits}
 use Rattle.circuit.proofs.Ends.{none_past}
 use Rattle.feeding.specs.Around.{feeder_in}

@@ -1,6 +1,5 @@
 -- `solver::keyed::settle_in` meets its contract. Assumes nothing.
 use Rattle.solver.proofs.Solving.{keyed}
-use borrow.Author.Rules.{rules}
 use Rattle.solver.proofs.keyed.settle_in.Goals as goal
 
 pub returns : goal.returns

@@ -1,7 +1,6 @@
 -- `solver::keyed::settle_within` meets its contract. Assumes nothing.
 use mathlib.Core.Path.{sym}
 use Rattle.columns.proofs.Columns.{length_zeros}
-use borrow.Author.Rules.{rules}
 use Rattle.solver.proofs.keyed.settle_within.Goals as goal
 
 pub slice_bounds-settle_in-end : goal.slice_bounds-settle_in-end

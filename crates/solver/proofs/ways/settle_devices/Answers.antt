@@ -3,7 +3,6 @@ use mathlib.Core.Path.{sym, ◌∙◌}
 use Prim.Native.Nat.{◌≤◌}
 use native.Mathlib.Omega.{arith}
 use Rattle.columns.proofs.Columns.{length_zeros}
-use borrow.Author.Rules.{rules}
 use Rattle.solver.proofs.ways.settle_devices.Goals as goal
 
 pub slice_bounds-emitted-end : goal.slice_bounds-emitted-end

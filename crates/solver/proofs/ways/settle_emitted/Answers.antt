@@ -1,5 +1,4 @@
 -- `solver::ways::settle_emitted` meets its contract. Assumes nothing.
-use borrow.Author.Rules.{rules}
 use Rattle.solver.proofs.ways.settle_emitted.Goals as goal
 
 pub returns : goal.returns

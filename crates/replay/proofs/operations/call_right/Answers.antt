@@ -1,0 +1,20 @@
+-- `replay::operations::call_right` meets its contract, by the operation. Assumes nothing.
+use borrow.Author.Tests.{ne_eqb}
+use borrow.Author.Rules.{rules}
+use Rattle.replay.proofs.operations.call_right.Goals as goal
+
+pub returns-in-10 : goal.returns-in-10
+returns-in-10 c = rw c.in-10.is c.settle_right.ensures
+
+pub returns-in-11 : goal.returns-in-11
+returns-in-11 c = rw c.in-11.is c.fresh_right.ensures
+
+pub returns-in-12 : goal.returns-in-12
+returns-in-12 c = rw c.in-12.is c.ticks_right.ensures
+
+pub returns-in-13 : goal.returns-in-13
+returns-in-13 c = rw c.in-13.is c.switch_right.ensures
+
+pub returns-in_default : goal.returns-in_default
+returns-in_default c = let none = c.in_default.in_default-own.rest in
+    rw (ne_eqb _ 10 none.0.0.0.1, ne_eqb _ 11 none.0.0.1, ne_eqb _ 12 none.0.1, ne_eqb _ 13 none.1)

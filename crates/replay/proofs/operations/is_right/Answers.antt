@@ -1,0 +1,35 @@
+-- `replay::operations::is_right` meets its contract, by the operation. Assumes nothing.
+use borrow.Author.Tests.{ne_eqb}
+use borrow.Author.Rules.{rules}
+use Rattle.replay.specs.Operations.{is_right}
+use Rattle.replay.proofs.operations.is_right.Goals as goal
+
+pub returns-in-1 : goal.returns-in-1
+unfolding is_right
+returns-in-1 c = rw (← c.byte_at-operation.ensures, c.in-1.is) c.traits_right.ensures
+
+pub returns-in-2 : goal.returns-in-2
+unfolding is_right
+returns-in-2 c = rw (← c.byte_at-operation.ensures, c.in-2.is) c.shape_right.ensures
+
+pub returns-in-3 : goal.returns-in-3
+unfolding is_right
+returns-in-3 c = rw (← c.byte_at-operation.ensures, c.in-3.is) c.find_right.ensures
+
+pub returns-in-4 : goal.returns-in-4
+unfolding is_right
+returns-in-4 c = rw (← c.byte_at-operation.ensures, c.in-4.is) c.supports_right.ensures
+
+pub returns-in-5 : goal.returns-in-5
+unfolding is_right
+returns-in-5 c = rw (← c.byte_at-operation.ensures, c.in-5.is) c.properties_right.ensures
+
+pub returns-in-6 : goal.returns-in-6
+unfolding is_right
+returns-in-6 c = rw (← c.byte_at-operation.ensures, c.in-6.is) c.offset_right.ensures
+
+pub returns-in_default : goal.returns-in_default
+unfolding is_right
+returns-in_default c = let none = c.in_default.in_default-own.rest in
+    let o = c.byte_at-operation in
+    rw (← o.ensures, ne_eqb o.result 1 none.0.0.0.0.0.1, ne_eqb o.result 2 none.0.0.0.0.1, ne_eqb o.result 3 none.0.0.0.1, ne_eqb o.result 4 none.0.0.1, ne_eqb o.result 5 none.0.1, ne_eqb o.result 6 none.1) c.wire_right.ensures

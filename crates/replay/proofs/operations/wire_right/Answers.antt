@@ -1,0 +1,17 @@
+-- `replay::operations::wire_right` meets its contract, by the operation. Assumes nothing.
+use borrow.Author.Tests.{ne_eqb}
+use borrow.Author.Rules.{rules}
+use Rattle.replay.proofs.operations.wire_right.Goals as goal
+
+pub returns-in-7 : goal.returns-in-7
+returns-in-7 c = rw c.in-7.is c.arms_right.ensures
+
+pub returns-in-8 : goal.returns-in-8
+returns-in-8 c = rw c.in-8.is c.transfer_right.ensures
+
+pub returns-in-9 : goal.returns-in-9
+returns-in-9 c = rw c.in-9.is c.redraw_right.ensures
+
+pub returns-in_default : goal.returns-in_default
+returns-in_default c = let none = c.in_default.in_default-own.rest in
+    rw (ne_eqb _ 7 none.0.0.1, ne_eqb _ 8 none.0.1, ne_eqb _ 9 none.1) c.call_right.ensures

@@ -1,0 +1,17 @@
+-- `settle::main` meets its contract. Assumes nothing.
+use mathlib.Core.Path.{sym}
+use Prim.Native.Nat.{◌≤◌}
+use native.Mathlib.Omega.{arith}
+use lib.ListN.{length}
+use lib.Seq.{length-take-le}
+use borrow.Author.Rules.{rules}
+use Rattle.settle.proofs.main.Goals as goal
+
+few : (c : goal.In-Bytes-2) → c.n-1.given.0.0 ≤ length c.read_all.new.1.0
+few c = let read = c.read_all in omega (arith, rw c.n-1.given.1 at read.ensures, read.auto.1.0)
+
+pub slice_bounds-input-end : goal.slice_bounds-input-end
+slice_bounds-input-end c = few c
+
+pub slice_bounds-report_on-end : goal.slice_bounds-report_on-end
+slice_bounds-report_on-end c = sym (length-take-le _ _ (few c))
