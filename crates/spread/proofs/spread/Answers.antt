@@ -15,9 +15,9 @@ loop-j-init c = spread_none
 pub loop-j-preserved : goal.loop-j-preserved
 loop-j-preserved c =
     let l = c.loop-j in
-    elim c.if-loss-levels.branch
-    [ then-loss-levels w ↦ spread_more l.invariant (omega arith) (w.out-is ∙ w.spread_from.ensures)
-    | else-loss-levels w ↦ rw w.out-is (spread_pass l.invariant (omega arith) w.if-loss-levels.false)
+    elim c.if-loss-levels.branch [
+      | then-loss-levels w ↦ spread_more l.invariant (omega arith) (w.out-is ∙ w.spread_from.ensures)
+      | else-loss-levels w ↦ rw w.out-is (spread_pass l.invariant (omega arith) w.if-loss-levels.false)
     ]
 
 pub returns : goal.returns
