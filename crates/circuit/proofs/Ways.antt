@@ -8,7 +8,7 @@ use native.Mathlib.Nat.{le_refl, le_of_suc-le-suc, eq-or-lt_of_le, not-suc-le-ze
 use native.Mathlib.Decide.{dec_lt}
 use native.Mathlib.Omega.{arith}
 use lib.ListN.{length}
-use borrow.Author.Tests.{lt-ltb, le-ltb, ltb-true, eqb-true}
+use borrow.Author.Tests.{lt-ltb, le-ltb, ltb-true, eq-eqb, eqb-true}
 use Rattle.columns.specs.Column.{Column, row}
 use Rattle.columns.proofs.Truth.{and_true}
 use Rattle.columns.proofs.Truth.{or_true as either}
@@ -54,6 +54,10 @@ module _ {near class : Column} {e : Edge} {j i : ℕ} where
       let w = some_holds _ (ways e) q in
       record { k = w.at; within = w.below; leads = eqb-true _ i w.holds; inside = ltb-true i (length class) p }
 
+  pub way_edge : Way near class e j i → edge_in near class e j i ≡ true
+  unfolding edge_in
+  way_edge w = rw (lt-ltb i (length class) w.inside) (holds_some _ (ways e) w.k w.within (eq-eqb _ i w.leads))
+
 -- ---- the ways by which dust transmits
 
 module _ (near class : Column) (j k : ℕ) where
@@ -83,10 +87,15 @@ module _ {near class : Column} (s : Shaped near class) where
       by_cases (dec_lt j (length class)) (λ m. m)
       (λ m. let none = beside_none near class j k (omega arith) in absurd (omega (arith, s.few)))
 
-  -- where a test of the two classes makes the row at place k by row j a sink
+  -- the row at place k by row j is a sink where a test of the two classes says so,
   module _ (j k i : ℕ) (test : ℕ → ℕ → Bool) where
     pub placed : sink_if (test (row class j) (row class (beside_in near class j k))) (beside_in near class j k) ≡ i → i < length class
         → (beside_in near class j k ≡ i) × (test (row class j) (row class i) ≡ true)
     placed h l =
         let (t, p) = sink_if_row (test (row class j) (row class (beside_in near class j k))) (beside_in near class j k) i h (omega (arith, s.few)) in
         (p, rw p at t)
+
+    -- and only there
+    pub place_sink : beside_in near class j k ≡ i → test (row class j) (row class i) ≡ true
+        → sink_if (test (row class j) (row class (beside_in near class j k))) (beside_in near class j k) ≡ i
+    place_sink p t = rw (p, t)

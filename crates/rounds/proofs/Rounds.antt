@@ -13,6 +13,7 @@ use Rattle.network.specs.Levels.{arriving}
 use Rattle.network.specs.Network.{Network, strong_of, weak_of, level, signals, empty_map}
 use Rattle.network.specs.Settled.{rounds_of, settled}
 use Rattle.network.specs.Demand.{rounds_range}
+use Rattle.levels.specs.declared.signal.Rounds.{Rounds}
 use Rattle.network.specs.Laws.Loop.{unmapped, Unanswered, Answered, repeats, unanswered_start, answered_next, unanswered_next, unanswered_out}
 use Rattle.refusals.specs.declared.Checked.TheVariants.{Accepted}
 use Rattle.refusals.specs.Check.{refuse_unless}
@@ -25,7 +26,7 @@ use Rattle.round.specs.Round.{next_signals, next_weaks}
 use Rattle.rounds.specs.Prepared.{Prepared, Room, Turns}
 use Rattle.rounds.specs.Outcome.{settled_in, outcome_of, written_by, RunsRounds, Solves}
 use Rattle.rounds.specs.declared.Outcome.{Outcome}
-use Rattle.rounds.specs.declared.Outcome.TheVariants.{Unsettled}
+use Rattle.rounds.specs.declared.Outcome.TheVariants.{Settled, Unsettled}
 
 -- ---- a round
 
@@ -53,6 +54,10 @@ turns {near} {class} {e} p {s = s} signal weak answer =
     }
 
 -- ---- the end of the loop
+
+-- the rounds that an outcome holds
+pub settled_count : {r : Outcome} {n : ℕ} {k : Rounds} → r ≡ settled_in n → r ≡ Settled k → k.count ≡ n
+settled_count e f = cc
 
 module _ {N : Network} {e : Column} {limit : ℕ} where
   pub ran_settled : {k : ℕ} {s w : Column} → Answered N e (strong_of N e) k s w → k ≤ limit → RunsRounds N e limit s w (settled_in k)

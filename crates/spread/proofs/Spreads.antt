@@ -11,7 +11,7 @@ use Rattle.network.specs.Laws.Gather.{arriving_start, arriving_next}
 use Rattle.circuit.specs.Circuit.{edge_in}
 use Rattle.spread.specs.Spread.{spread_from, spread}
 use Rattle.circuit.specs.declared.Edge.{Edge}
-use Rattle.spread.proofs.Lifted.{lifted, length_lifted, row_lifted, lifted_same, lifted_none, lifted_twice}
+use Rattle.spread.proofs.Lifted.{lifted, length_lifted, row_lifted, lifted_same, lifted_none, lifted_tabulate, lifted_twice}
 
 -- ---- from one row
 
@@ -20,6 +20,14 @@ module _ (edge : Edge) (near class : Column) (j level : ℕ) (s : Column) where
   pub spread_nowhere : ((i : ℕ) → edge_in near class edge j i ≡ false) → s ≡ spread_from edge near class j level s
   unfolding spread_from
   spread_nowhere h = lifted_none s _ (λ m l. rw (h m))
+
+  pub length_spread_from : length (spread_from edge near class j level s) ≡ length s
+  unfolding spread_from
+  length_spread_from = length_lifted s _
+
+  pub row_spread_from : (i : ℕ) → i < length s → row (spread_from edge near class j level s) i ≡ max (row s i) (cond (edge_in near class edge j i) level 0)
+  unfolding spread_from
+  row_spread_from i l = row_lifted s _ i l
 
 -- ---- from all rows
 
@@ -68,7 +76,18 @@ module _ {edge : Edge} {near class : Column} {loss : ℕ} {levels s : Column} {j
   spread_all l = let full : j ≡ length levels = omega (arith, h.within) in h.is ∙ rw full
 
 module _ (edge : Edge) (near class : Column) (loss : ℕ) (levels s : Column) where
+  pub length_spread : length (spread edge near class loss levels s) ≡ length s
+  unfolding spread
+  length_spread = length_lifted s _
+
   pub row_spread : (i : ℕ) → i < length s
       → row (spread edge near class loss levels s) i ≡ max (row s i) (arriving (length levels) (edge_in near class edge) (λ j. row levels j - loss) i)
   unfolding spread
   row_spread i l = row_lifted s _ i l
+
+-- onto a column that f gives
+pub spread_tabulate : (edge : Edge) (near class : Column) (loss : ℕ) (levels : Column) (n : ℕ) (f : ℕ → ℕ)
+    → spread edge near class loss levels (tabulate n f)
+    ≡ tabulate n (λ i. max (f i) (arriving (length levels) (edge_in near class edge) (λ j. row levels j - loss) i))
+unfolding spread
+spread_tabulate edge near class loss levels n f = lifted_tabulate n f _

@@ -122,6 +122,11 @@ module _ (t : Bytes) (order : InOrder t) where
   later_not_before : (i j : ℕ) → i ≤ j → j < rows t → before (pos_of t j) (pos_of t i) ≡ false
   later_not_before i j g h = let e : i + (j - i) ≡ j = omega arith in rw e at (steps i (j - i) (omega arith))
 
+  -- a row at or past q is followed by such rows alone
+  pub at_or_past_on : (q : Pos) (i j : ℕ) → i ≤ j → j < rows t → is_at_or_past t q i ≡ true → is_at_or_past t q j ≡ true
+  at_or_past_on q i j g h e =
+      rw (not_before_trans q (pos_of t i) (pos_of t j) (not-true _ e) (later_not_before i j g h))
+
   -- "On rows in order its answers do not change": it is the first row that stands at the position
   pub find_in_order : (q : Pos) → find t q ≡ first_standing t q
   unfolding find first_at_or_past first_standing

@@ -1,5 +1,4 @@
 -- `spread::raise` meets its contract. Assumes nothing.
-use borrow.Author.Rules.{rules}
 use Rattle.spread.proofs.Lifted.{set_raised, past_raised}
 use Rattle.spread.proofs.raise.Goals as goal
 

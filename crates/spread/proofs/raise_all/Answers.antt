@@ -1,5 +1,4 @@
 -- `spread::raise_all` meets its contract. Assumes nothing.
-use borrow.Author.Rules.{rules}
 use Rattle.spread.proofs.raise_all.Goals as goal
 
 pub returns-in-EmittedToStrong : goal.returns-in-EmittedToStrong

@@ -1,8 +1,6 @@
 -- Answers of `spread::raise_around`.
-use Prim.Native.Nat.{◌-◌}
 use native.Mathlib.Omega.{arith}
-use borrow.Author.Rules.{rules}
-use Rattle.spread.proofs.RaisedSinks.{Around, around_none, around_more, around_spread}
+use Rattle.spread.proofs.RaisedSinks.{around_none, around_more, around_spread}
 use Rattle.spread.proofs.raise_around.Goals as goal
 
 pub loop-f-init : goal.loop-f-init

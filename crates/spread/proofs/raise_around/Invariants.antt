@@ -1,8 +1,6 @@
 -- `spread::raise_around` meets its contract. The loop's invariant: the rows along the first f facings are raised. Assumes nothing.
 use Prim.Native.Nat.{◌-◌}
-use native.Mathlib.Omega.{arith}
-use borrow.Author.Rules.{rules}
-use Rattle.spread.proofs.RaisedSinks.{Around, around_none, around_more, around_spread}
+use Rattle.spread.proofs.RaisedSinks.{Around}
 use Rattle.spread.proofs.raise_around.Given as goal
 
 abbrev pub invariant-loop-f : goal.invariant-loop-f

@@ -1,9 +1,6 @@
 -- Answers of `spread::raise_sinks`.
-use Prim.Native.Nat.{◌-◌}
 use native.Mathlib.Omega.{arith}
-use borrow.Author.Rules.{rules}
-use Rattle.circuit.specs.Circuit.{ways}
-use Rattle.spread.proofs.RaisedSinks.{Raised, raised_none, raised_more, raised_all}
+use Rattle.spread.proofs.RaisedSinks.{raised_none, raised_more, raised_all}
 use Rattle.spread.proofs.raise_sinks.Goals as goal
 
 pub loop-k-init : goal.loop-k-init

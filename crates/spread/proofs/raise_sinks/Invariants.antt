@@ -1,9 +1,7 @@
 -- `spread::raise_sinks` meets its contract. The loop's invariant: the rows that k ways lead to are raised. Assumes nothing.
 use Prim.Native.Nat.{◌-◌}
-use native.Mathlib.Omega.{arith}
-use borrow.Author.Rules.{rules}
 use Rattle.circuit.specs.Circuit.{ways}
-use Rattle.spread.proofs.RaisedSinks.{Raised, raised_none, raised_more, raised_all}
+use Rattle.spread.proofs.RaisedSinks.{Raised}
 use Rattle.spread.proofs.raise_sinks.Given as goal
 
 abbrev pub invariant-loop-k : goal.invariant-loop-k

@@ -1,11 +1,7 @@
 -- Answers of `spread::spread`.
 use mathlib.Core.Path.{◌∙◌}
-use mathlib.Core.Logic.{⊎_elim}
-use Prim.Native.Nat.{◌-◌}
 use native.Mathlib.Omega.{arith}
-use lib.ListN.{length}
-use borrow.Author.Rules.{rules}
-use Rattle.spread.proofs.Spreads.{Spread, spread_none, spread_more, spread_pass, spread_all}
+use Rattle.spread.proofs.Spreads.{spread_none, spread_more, spread_pass, spread_all}
 use Rattle.spread.proofs.spread.Goals as goal
 use Rattle.spread.proofs.spread.Goals.{then-loss-levels, else-loss-levels}
 

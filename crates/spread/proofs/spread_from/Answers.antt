@@ -1,6 +1,5 @@
 -- `spread::spread_from` meets its contract. Assumes nothing.
 use mathlib.Core.Path.{sym, ◌∙◌}
-use borrow.Author.Rules.{rules}
 use Rattle.circuit.proofs.Ends.{none_sent}
 use Rattle.spread.proofs.Spreads.{spread_nowhere}
 use Rattle.spread.proofs.spread_from.Goals as goal
