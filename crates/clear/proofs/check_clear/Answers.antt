@@ -1,6 +1,5 @@
 -- `clear::check_clear` meets its contract. Assumes nothing.
 use Rattle.clear.specs.Clear.{check_clear}
-use borrow.Author.Rules.{rules}
 use Rattle.clear.proofs.check_clear.Goals as goal
 
 pub returns : goal.returns

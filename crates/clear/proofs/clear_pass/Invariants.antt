@@ -1,11 +1,7 @@
 -- `clear::clear_pass` meets its contract. The loop's invariant: of the rows passed, those that go are marked. Assumes nothing.
-use borrow.Author.Rules.{rules}
-use mathlib.Core.Path.{◌≡◌, sym, ◌∙◌}
-use mathlib.Core.Logic.{⊎_elim}
-use Prim.Native.Nat.{◌≤◌, ◌<◌, ◌-◌}
-use native.Mathlib.Omega.{arith}
+use Prim.Native.Nat.{◌≤◌, ◌-◌}
 use lib.ListN.{length}
-use Rattle.clear.proofs.Marking.{Marking, marking_none, goes_then, marking_pass, marking_more, marking_all, marking_any}
+use Rattle.clear.proofs.Marking.{Marking}
 use Rattle.clear.proofs.clear_pass.Given as goal
 
 abbrev pub invariant-loop-i : goal.invariant-loop-i

@@ -1,11 +1,8 @@
 -- Answers of `clear::fill_holders`.
-use borrow.Author.Rules.{rules}
 use mathlib.Core.Path.{sym, ◌∙◌}
-use Prim.Native.Nat.{◌-◌}
 use native.Mathlib.Omega.{arith}
-use Rattle.columns.proofs.Columns.{Filled, filled_none, filled_more, filled_all}
-use Rattle.world.specs.Rows.{rows}
-use Rattle.clear.specs.Marks.{holder_of, holders_of}
+use Rattle.columns.proofs.Columns.{filled_none, filled_more, filled_all}
+use Rattle.clear.specs.Marks.{holders_of}
 use Rattle.clear.proofs.fill_holders.Goals as goal
 
 pub loop-i-init : goal.loop-i-init

@@ -1,11 +1,8 @@
 -- `clear::fill_holders` meets its contract. The loop's invariant: the rows passed have what holds them up. Assumes nothing.
-use borrow.Author.Rules.{rules}
-use mathlib.Core.Path.{sym, ◌∙◌}
 use Prim.Native.Nat.{◌-◌}
-use native.Mathlib.Omega.{arith}
-use Rattle.columns.proofs.Columns.{Filled, filled_none, filled_more, filled_all}
+use Rattle.columns.proofs.Columns.{Filled}
 use Rattle.world.specs.Rows.{rows}
-use Rattle.clear.specs.Marks.{holder_of, holders_of}
+use Rattle.clear.specs.Marks.{holder_of}
 use Rattle.clear.proofs.fill_holders.Given as goal
 
 abbrev pub invariant-loop-i : goal.invariant-loop-i

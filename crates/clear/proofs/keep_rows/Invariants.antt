@@ -1,12 +1,7 @@
 -- `clear::keep_rows` meets its contract. The loop's invariant: of the rows passed, those without a mark are at the front. Assumes nothing.
-use borrow.Author.Rules.{rules}
-use borrow.Author.Tests.{eq-eqb, ne_eqb}
-use mathlib.Core.Path.{◌≡◌, ◌∙◌}
-use mathlib.Core.Logic.{⊎_elim}
 use Prim.Native.Nat.{◌≤◌, ◌-◌}
-use native.Mathlib.Omega.{arith}
 use Rattle.world.specs.Rows.{rows}
-use Rattle.subtables.proofs.Copies.{Copied, copied_none, copied_pass, copied_more}
+use Rattle.subtables.proofs.Copies.{Copied}
 use Rattle.clear.specs.Marks.{unmarked}
 use Rattle.clear.proofs.keep_rows.Given as goal
 

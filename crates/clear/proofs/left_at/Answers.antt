@@ -1,5 +1,4 @@
 -- `clear::left_at` meets its contract. Assumes nothing.
-use borrow.Author.Rules.{rules}
 use borrow.Author.Tests.{lt-ltb, le-ltb}
 use Rattle.clear.proofs.left_at.Goals as goal
 

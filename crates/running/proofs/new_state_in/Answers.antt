@@ -1,6 +1,5 @@
 -- `running::new_state_in` meets its contract. Assumes nothing.
 use Rattle.refusals.proofs.Accepted.{accepted_input}
-use borrow.Author.Rules.{rules}
 use Rattle.running.proofs.new_state_in.Goals as goal
 
 pub prepare-requires : goal.prepare-requires

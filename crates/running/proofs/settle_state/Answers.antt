@@ -1,7 +1,6 @@
 -- `running::settle_state` meets its contract. Assumes nothing.
 use Rattle.refusals.proofs.Accepted.{accepted_input}
 use Rattle.running.proofs.Running.{few_near, near_front, few_class, class_front, room}
-use borrow.Author.Rules.{rules}
 use Rattle.running.proofs.settle_state.Goals as goal
 
 pub slice_bounds-near-end : goal.slice_bounds-near-end

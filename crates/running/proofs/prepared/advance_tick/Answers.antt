@@ -1,9 +1,7 @@
 -- `running::prepared::advance_tick` meets its contract. Assumes nothing.
-use mathlib.Core.Path.{◌≡◌, ◌∙◌}
-use Rattle.updates.specs.Tick.{set_devices}
+use mathlib.Core.Path.{◌∙◌}
 use Rattle.running.proofs.Running.{table, ready_next, next_devices, ticked}
 use Rattle.running.proofs.Valid.{valid_state}
-use borrow.Author.Rules.{rules}
 use Rattle.running.proofs.prepared.advance_tick.Goals as goal
 
 pub set_devices-requires : goal.set_devices-requires

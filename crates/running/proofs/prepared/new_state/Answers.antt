@@ -2,7 +2,6 @@
 use mathlib.Core.Path.{refl}
 use Rattle.running.proofs.Running.{lengths_kept}
 use Rattle.updates.specs.State.{fresh_state}
-use borrow.Author.Rules.{rules}
 use Rattle.running.proofs.prepared.new_state.Goals as goal
 
 pub fill_fresh_devices-requires : goal.fill_fresh_devices-requires
@@ -11,7 +10,7 @@ fill_fresh_devices-requires c = c.requires.2.device_rows
 pub settle-rounds-requires : goal.settle-rounds-requires
 settle-rounds-requires c = let after = c in
     let s = after in
-    (s.requires.0, lengths_kept s.requires.2 after.fill_fresh_devices.auto.1.0 refl refl refl, s.requires.3)
+    (s.requires.0, lengths_kept s.requires.2 after.fill_fresh_devices.auto.devices refl refl refl, s.requires.3)
 
 pub returns : goal.returns
 unfolding fresh_state

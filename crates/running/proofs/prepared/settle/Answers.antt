@@ -4,7 +4,6 @@ use Prim.Native.Nat.{ℕ, ◌≤◌}
 use native.Mathlib.Omega.{arith}
 use Rattle.columns.proofs.Columns.{length_zeros}
 use Rattle.running.proofs.Running.{table}
-use borrow.Author.Rules.{rules}
 use Rattle.running.proofs.prepared.settle.Goals as goal
 
 few : (n rows : ℕ) → n ≡ rows → rows ≤ 1024 → n ≤ 1024

@@ -1,7 +1,6 @@
 -- `running::prepared::settle_state` meets its contract. Assumes nothing.
 use mathlib.Core.Path.{refl}
 use Rattle.running.proofs.Running.{lengths_kept, settles}
-use borrow.Author.Rules.{rules}
 use Rattle.running.proofs.prepared.settle_state.Goals as goal
 
 pub fill_devices-requires : goal.fill_devices-requires
@@ -10,7 +9,7 @@ fill_devices-requires c = let s = c in (s.requires.0.long, s.requires.1.device_r
 pub settle-requires : goal.settle-requires
 settle-requires c = let after = c in
     let s = after in
-    (s.requires.0.accepted, lengths_kept s.requires.1 after.fill_devices.auto.1.1.0 refl refl refl, s.requires.2)
+    (s.requires.0.accepted, lengths_kept s.requires.1 after.fill_devices.auto.devices refl refl refl, s.requires.2)
 
 pub returns : goal.returns
 returns c =

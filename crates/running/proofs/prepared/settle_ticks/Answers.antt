@@ -1,9 +1,7 @@
 -- Answers of `running::prepared::settle_ticks`.
 use mathlib.Core.Path.{◌≡◌, sym, ◌∙◌}
-use Prim.Native.Nat.{◌-◌, ◌≤◌}
 use native.Mathlib.Omega.{arith}
-use Rattle.running.specs.Running.{ColumnLengths}
-use Rattle.running.proofs.Running.{lengths_kept, ready, Ticking, ticking_none, ticking_valid, ticking_long, ticking_more}
+use Rattle.running.proofs.Running.{lengths_kept, ready, ticking_none, ticking_valid, ticking_long, ticking_more}
 use Rattle.running.proofs.prepared.settle_ticks.Goals as goal
 
 pub settle_state-rounds-requires : goal.settle_state-rounds-requires

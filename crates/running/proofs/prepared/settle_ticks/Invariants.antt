@@ -1,9 +1,7 @@
 -- `running::prepared::settle_ticks` meets its contract. The loop's invariant: so many ticks are done. Assumes nothing.
-use mathlib.Core.Path.{◌≡◌, sym, ◌∙◌}
 use Prim.Native.Nat.{◌-◌, ◌≤◌}
-use native.Mathlib.Omega.{arith}
 use Rattle.running.specs.Running.{ColumnLengths}
-use Rattle.running.proofs.Running.{lengths_kept, ready, Ticking, ticking_none, ticking_valid, ticking_long, ticking_more}
+use Rattle.running.proofs.Running.{Ticking}
 use Rattle.running.proofs.prepared.settle_ticks.Given as goal
 
 abbrev pub invariant-loop-done : goal.invariant-loop-done
