@@ -1,51 +1,17 @@
 -- `calls::fresh_right` meets its contract: the buffers that are lent are blank. Assumes nothing.
 use mathlib.Core.Path.{sym, ap, ◌∙◌}
-use Prim.Native.Nat.{◌*◌, ◌≤◌}
+use Prim.Native.Nat.{◌*◌}
 use native.Mathlib.Omega.{arith}
 use Rattle.calls.specs.Calls.{fresh_right}
-use Rattle.calls.proofs.Lending.{lent_length, lent_blank, Small, small}
-use borrow.Author.Rules.{rules}
+use Rattle.calls.proofs.Lending.{lent_blank, small}
 use Rattle.calls.proofs.fresh_right.Goals as goal
-
--- what is known once the rows are counted
-at : (c : goal.After-rows-n) → Small c.args.r.now c.rows-n.result
-at c = small _ 6 4 (sym c.well-formed-2.ensures ∙ c.if-well_formed.true) c.slice_of.ensures c.rows-n.ensures
-
--- the state has room
-room : (c : goal.After-rows-n) → c.rows-n.result * 16 ≤ 1024
-room c = omega (arith, (at c).few)
-
-pub slice_bounds-state-end : goal.slice_bounds-state-end
-slice_bounds-state-end c = room c
-
-pub slice_bounds-fresh_in-end : goal.slice_bounds-fresh_in-end
-slice_bounds-fresh_in-end c = lent_length _ 1024 (room c)
-
-pub slice_bounds-signal-end : goal.slice_bounds-signal-end
-slice_bounds-signal-end c = (at c).few
-
-pub slice_bounds-fresh_in-end-then-well_formed : goal.slice_bounds-fresh_in-end-then-well_formed
-slice_bounds-fresh_in-end-then-well_formed c = lent_length _ 64 (at c).few
-
-pub slice_bounds-weak-end : goal.slice_bounds-weak-end
-slice_bounds-weak-end c = (at c).few
-
-pub slice_bounds-fresh_in-end-then-well_formed-2 : goal.slice_bounds-fresh_in-end-then-well_formed-2
-slice_bounds-fresh_in-end-then-well_formed-2 c = lent_length _ 64 (at c).few
-
-pub slice_bounds-strong-end : goal.slice_bounds-strong-end
-slice_bounds-strong-end c = (at c).few
-
-pub slice_bounds-fresh_in-end-then-well_formed-3 : goal.slice_bounds-fresh_in-end-then-well_formed-3
-slice_bounds-fresh_in-end-then-well_formed-3 c = lent_length _ 64 (at c).few
 
 pub returns-then-well_formed : goal.returns-then-well_formed
 unfolding fresh_right
-returns-then-well_formed c = let done = c in
-    let counted = done in
-    let s = at counted in
-    rw (← counted.well-formed-2.ensures, counted.if-well_formed.true, ← lent_blank 64 s.few s.is, ← lent_blank 1024 (room counted) (ap (λ k. k * 16) s.is)) done.Fresh-in.ensures
+returns-then-well_formed c =
+    let s = small c.args.r.now 6 4 (sym c.well_formed-2.ensures ∙ c.if-well_formed.true) c.slice_of.ensures c.rows-n.ensures in
+    rw (← c.well_formed-2.ensures, c.if-well_formed.true, ← lent_blank 64 s.few s.is, ← lent_blank 1024 (omega (arith, s.few)) (ap (λ k. k * 16) s.is)) c.fresh_in.ensures
 
 pub returns : goal.returns
 unfolding fresh_right
-returns c = rw (← c.well-formed-2.ensures, c.if-well_formed.false)
+returns c = rw (← c.well_formed-2.ensures, c.if-well_formed.false)

@@ -6,10 +6,6 @@ use Rattle.calls.proofs.Agreeing.{switch_agrees}
 use borrow.Author.Rules.{rules}
 use Rattle.tick_calls.proofs.switch_in.Goals as goal
 
--- the coordinates of the position fit
-fits : (c : goal.After-pos_at-q) → SFits w32 c.pos_at-q.result.x × SFits w32 c.pos_at-q.result.y × SFits w32 c.pos_at-q.result.z
-fits c = (search rules, search rules, search rules)
-
 pub returns : goal.returns
 returns c = let compared = c in
     let numbered = compared in
@@ -17,6 +13,6 @@ returns c = let compared = c in
     let read = called in
     let place = read in
     let q = place.pos_at-q.result in
-    let fit = fits place in
+    let fit : SFits w32 q.x × SFits w32 q.y × SFits w32 q.z = (search rules, search rules, search rules) in
     let switches = rw (read.slice_of.ensures, read.slice_of-2.ensures, read.number.ensures, back32 q.x fit.0, back32 q.y fit.1, back32 q.z fit.2, place.pos_at-q.ensures, place.after.ensures) at called.redstone_switch-answered.ensures in
     rw (c.columns_agree.ensures, compared.same.ensures, compared.slice_of-3.ensures, numbered.number-2.ensures) (switch_agrees place.args.r.now switches)
