@@ -6,68 +6,81 @@ use native.Mathlib.Omega.{arith}
 use lib.ListN.{length, take, drop}
 use Rattle.columns.specs.Column.{Bytes}
 use Rattle.words.specs.Words.{word}
-use Rattle.streams.specs.Stream.{table_bytes, first_table, front_of}
+use Rattle.streams.specs.Stream.{table_bytes, first_table, front_of, ends_as, read_within}
+use Rattle.streams.specs.declared.Ending.{Ending}
+use Rattle.streams.specs.declared.Front.{Front}
+use Rattle.streams.specs.declared.Front.TheVariants.{Table, Ends}
 use Rattle.streams.proofs.Streams.{IsTable, front_table, front_ends}
 use Rattle.totals.proofs.Reading.{few_rows, Reading, month_reading, reading_few, reading_room, SoFar, so_far_none, table_fits, so_far_more, so_far_ends}
 use Rattle.totals.proofs.read.Goals as goal
 
-pub loop-init : goal.loop-init
-loop-init c = so_far_none _ _ _
+-- Where the front of the bytes left says so, a table stands there,
+table : {left : ℕ} {rest shown : Bytes} {f : Front} → shown ≡ rest → f ≡ front_of left shown → f ≡ Table → (0 < left) × IsTable rest
+table {left} {rest} same is none = front_table left rest (sym (rw same at is) ∙ none)
 
--- what the caller's month is the month of, and these bytes up to here
-here : (c : goal.At-loop) → Reading c.args.profile.now (c.requires.month.stream ++ take c.loop.at c.args.bytes.now) c.loop.figures
-here c = c.loop.invariant.is c.requires.month.stream (month_reading c.requires.month.is c.requires.whole)
+-- and where it says how the reading ends, so it ends.
+ended : {left : ℕ} {rest shown : Bytes} {f : Front} {e : Ending} → shown ≡ rest → f ≡ front_of left shown → f ≡ Ends e → read_within left rest ≡ ends_as e
+ended {left} {rest} same is ends = front_ends left rest _ (sym (rw same at is) ∙ ends)
+
+-- The table has so many bytes.
+size : {rest shown : Bytes} {n : ℕ} → shown ≡ rest → n ≡ word shown → n * 32 ≡ table_bytes rest
+size same counted = ap (λ (k : ℕ). k * 32) (counted ∙ ap word same)
+
+-- The table that is lent.
+taken : {rest shown later lent : Bytes} {n : ℕ} → shown ≡ rest → n ≡ word shown → later ≡ drop 4 shown → lent ≡ take (n * 32) later → lent ≡ first_table rest
+taken {rest} {n = n} same counted after lends =
+    lends ∙ ap (take (n * 32)) (after ∙ ap (drop 4) same) ∙ ap (λ (k : ℕ). take k (drop 4 rest)) (size same counted)
+
+pub loop-ending-init : goal.loop-ending-init
+loop-ending-init c = so_far_none _ _ _
 
 pub overflow_add-left : goal.overflow_add-left
-overflow_add-left c = record { fits = omega (arith, reading_few (here c)) }
+overflow_add-left c =
+    let inv = c.loop-ending.invariant in
+    let here = inv.is c.requires.month.stream (month_reading c.requires.month.is c.requires.whole) in
+    record { fits = omega (arith, reading_few here) }
 
 pub overflow_sub-left : goal.overflow_sub-left
-overflow_sub-left c = reading_few (here c)
+overflow_sub-left c =
+    let inv = c.loop-ending.invariant in
+    let here = inv.is c.requires.month.stream (month_reading c.requires.month.is c.requires.whole) in
+    reading_few here
 
--- what is left
-abbrev rest : goal.At-loop → Bytes
-rest c = drop c.loop.at c.args.bytes.now
-
--- what stands at its front
-fronted : (c : goal.After-front_of) → let f = c.loop.figures in
-    c.front_of.result ≡ front_of (1000000 - (f.tables + f.refused)) (rest c)
-fronted c = rw (← c.from-rest.ensures) c.front_of.ensures
-
-pub returns : goal.returns
-returns c =
-    let f = c.loop.figures in
-    let ends = front_ends (1000000 - (f.tables + f.refused)) (rest c) _ (sym (fronted c) ∙ c.in-Ends.is) in
-    record { is = λ s e. so_far_ends c.loop.invariant _ ends s (month_reading e c.requires.whole) }
-
--- there a table stands
-table : (c : goal.After-row_count) → let f = c.loop.figures in (0 < 1000000 - (f.tables + f.refused)) × IsTable (rest c)
-table c = front_table _ (rest c) (sym (fronted c) ∙ c.in_default.is)
-
--- of so many bytes
-size : (c : goal.After-row_count) → c.row_count.result * 32 ≡ table_bytes (rest c)
-size c = ap (λ (n : ℕ). n * 32) (c.row_count.ensures ∙ ap word c.from-rest.ensures)
+pub returns-in-Ends : goal.returns-in-Ends
+returns-in-Ends c =
+    let inv = c.loop-ending.invariant in
+    let ends = ended c.from-rest.ensures c.front_of.ensures c.in-Ends.is in
+    record { is = λ s e. so_far_ends inv _ ends s (month_reading e c.requires.whole) }
 
 pub overflow_mul-n : goal.overflow_mul-n
-overflow_mul-n c = record { fits = omega (arith, size c, (table c).1.few) }
+overflow_mul-n c =
+    let t = table c.from-rest.ensures c.front_of.ensures c.in_default.is in
+    record { fits = omega (arith, size c.from-rest.ensures c.row_count-n.ensures, t.1.few) }
 
--- the table that is lent
-taken : (c : goal.After-front) → c.front.result.now ≡ first_table (rest c)
-taken c =
-    c.front.ensures ∙ ap (take (c.row_count.result * 32)) (c.from.ensures ∙ ap (drop 4) c.from-rest.ensures) ∙ ap (λ (n : ℕ). take n (drop 4 (rest c))) (size c)
-
-pub with_table-requires : goal.with_table-requires
-with_table-requires c = (reading_room (here c), rw (taken c) (few_rows (table c).1))
+pub with_table-figures-requires : goal.with_table-figures-requires
+with_table-figures-requires c =
+    let inv = c.loop-ending.invariant in
+    let here = inv.is c.requires.month.stream (month_reading c.requires.month.is c.requires.whole) in
+    let t = table c.from-rest.ensures c.front_of.ensures c.in_default.is in
+    (reading_room here, rw (taken c.from-rest.ensures c.row_count-n.ensures c.from.ensures c.front.ensures) (few_rows t.1))
 
 pub overflow_add-at : goal.overflow_add-at
-overflow_add-at c = record { fits = omega (arith, size c, (table c).1.few) }
+overflow_add-at c =
+    let t = table c.from-rest.ensures c.front_of.ensures c.in_default.is in
+    record { fits = omega (arith, size c.from-rest.ensures c.row_count-n.ensures, t.1.few) }
 
-pub overflow_add-at-2 : goal.overflow_add-at-2
-overflow_add-at-2 c = record { fits = omega (arith, size c, table_fits c.loop.invariant (table c).1) }
+pub overflow_add-at-in-loop-ending : goal.overflow_add-at-in-loop-ending
+overflow_add-at-in-loop-ending c =
+    let t = table c.from-rest.ensures c.front_of.ensures c.in_default.is in
+    record { fits = omega (arith, size c.from-rest.ensures c.row_count-n.ensures, table_fits c.loop-ending.invariant t.1) }
 
-pub loop-smaller : goal.loop-smaller
-loop-smaller c = omega (arith, size c, table_fits c.loop.invariant (table c).1)
+pub loop-ending-smaller : goal.loop-ending-smaller
+loop-ending-smaller c =
+    let t = table c.from-rest.ensures c.front_of.ensures c.in_default.is in
+    omega (arith, size c.from-rest.ensures c.row_count-n.ensures, table_fits c.loop-ending.invariant t.1)
 
-pub loop-preserved : goal.loop-preserved
-loop-preserved c =
-    let (some, t) = table c in
-    rw (size c) (so_far_more c.loop.invariant t some (rw (taken c) at c.with_table.ensures))
+pub loop-ending-preserved : goal.loop-ending-preserved
+loop-ending-preserved c =
+    let t = table c.from-rest.ensures c.front_of.ensures c.in_default.is in
+    let lent = taken c.from-rest.ensures c.row_count-n.ensures c.from.ensures c.front.ensures in
+    rw (size c.from-rest.ensures c.row_count-n.ensures) (so_far_more c.loop-ending.invariant t.1 t.0 (rw lent at c.with_table-figures.ensures))

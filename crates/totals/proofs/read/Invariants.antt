@@ -4,8 +4,8 @@ use lib.ListN.{length}
 use Rattle.totals.proofs.Reading.{SoFar}
 use Rattle.totals.proofs.read.Given as goal
 
-abbrev pub invariant-loop : goal.invariant-loop
-invariant-loop l = SoFar l.profile l.bytes l.initial.figures l.figures l.at
+abbrev pub invariant-loop-ending : goal.invariant-loop-ending
+invariant-loop-ending l = SoFar l.profile l.bytes l.initial.figures l.figures l.at
 
-abbrev pub decreases-loop : goal.decreases-loop
-decreases-loop l = length l.bytes - l.at
+abbrev pub decreases-loop-ending : goal.decreases-loop-ending
+decreases-loop-ending l = length l.bytes - l.at
