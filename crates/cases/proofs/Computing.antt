@@ -17,8 +17,8 @@ use Rattle.moving.specs.Move.{pos_bytes, moved_row, good_offset, on_ground}
 use Rattle.unions.specs.Union.{rows_from, joined, insert_row, union_rows, has_clash}
 use Rattle.merge.specs.Merge.{merged_rows, merged_table, check_merge}
 use Rattle.subtables.specs.Subtable.{table_of}
-use Rattle.clearing.specs.Passes.{unnamed_from, left}
-use Rattle.clearing.specs.Laws.{first_none}
+use Rattle.passes.specs.Passes.{unnamed_from, left}
+use Rattle.passes.specs.Search.{first_none}
 use Rattle.clearing.specs.Kept.{clearing, passes_of, kept_rows, kept_table, pass_of, pass_column}
 use Rattle.clear.specs.Clear.{check_clear}
 use Rattle.connectivity.specs.Ports.{ahead, output_of, input_of, across, sides_of}

@@ -21,7 +21,7 @@ use Rattle.world.specs.Rows.{rows, kind_of}
 use Rattle.refusals.specs.Accepted.{Table}
 use Rattle.supports.specs.Supports.{needs_support}
 use Rattle.supports.specs.Rows.{support_row}
-use Rattle.clearing.specs.Passes.{issues_among, left}
+use Rattle.passes.specs.Passes.{issues_among, left}
 use Rattle.clearing.specs.Kept.{passes_of, pass_of, pass_column}
 use Rattle.clearing.proofs.Steps.{lacks_among, still_left, pass_within}
 use Rattle.clearing.specs.Largest.{EverySupported}

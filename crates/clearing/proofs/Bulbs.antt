@@ -11,7 +11,7 @@ use Rattle.world.specs.Rows.{rows}
 use Rattle.refusals.specs.Check.{IsAccepted}
 use Rattle.supports.proofs.Bulbs.{issues_with_bulb}
 use Rattle.subtables.specs.Subtable.{table_of}
-use Rattle.clearing.specs.Passes.{unnamed_from, issues_among, left}
+use Rattle.passes.specs.Passes.{unnamed_from, issues_among, left}
 use Rattle.clearing.specs.Kept.{passes_of, kept_rows, kept_table, pass_of, pass_column}
 use Rattle.clearing.proofs.Going.{passes_until, passes_are}
 use Rattle.clearing.proofs.Clearing.{left_accepted}

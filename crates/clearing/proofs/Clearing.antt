@@ -24,8 +24,8 @@ use Rattle.supports.specs.Supports.{needs_support, support_issues}
 use Rattle.subtables.specs.Subtable.{table_of}
 use Rattle.subtables.proofs.Rows.{indices_numbers, table_count, table_all}
 use Rattle.subtables.proofs.Tables.{rows_accepted}
-use Rattle.clearing.specs.Passes.{issues_among, left}
-use Rattle.clearing.specs.Laws.{row_one, first_named}
+use Rattle.passes.specs.Passes.{issues_among, left}
+use Rattle.passes.proofs.Laws.{row_one, first_named}
 use Rattle.clearing.specs.Kept.{Goes, passes_of, kept_rows, kept_table, pass_of, pass_column}
 use Rattle.clearing.specs.Largest.{HeldUpBy, HasSupport, EverySupported, Largest}
 use Rattle.clearing.proofs.Steps.{still_left, pass_within}

@@ -21,8 +21,8 @@ use Rattle.columns.proofs.Truth.{refuted}
 use Rattle.columns.proofs.Indices.{index_kept, kept_index}
 use Rattle.world.specs.Rows.{rows}
 use Rattle.refusals.specs.Accepted.{Table}
-use Rattle.clearing.specs.Passes.{unnamed_from, issues_among, left, Until}
-use Rattle.clearing.specs.Laws.{left_few}
+use Rattle.passes.specs.Passes.{unnamed_from, issues_among, left, Until}
+use Rattle.passes.proofs.Laws.{left_few, until_one}
 use Rattle.clearing.specs.Kept.{Goes, clearing, passes_of, is_left}
 use Rattle.clearing.specs.Largest.{HeldUpBy}
 use Rattle.clearing.proofs.Steps.{lacks_among, still_left, pass_within}
@@ -45,9 +45,7 @@ module _ (p t : Bytes) where
 
   -- and no other number of passes is
   pub passes_are : (k : ℕ) → Until p t k → passes_of p t ≡ k
-  passes_are k u =
-      by_cases (dec_lt (passes_of p t) k) (λ l. absurd (u.not_yet (passes_of p t) l passes_until.none))
-      (λ m. by_cases (dec_lt k (passes_of p t)) (λ l. absurd (passes_until.not_yet k l u.none)) (λ n. omega arith))
+  passes_are k u = until_one p t (passes_of p t) k passes_until u
 
   -- "The passes are bounded by the row count", of whatever table: and with the rows that are kept they are no more than that
   pub passes_few : length (left p t (passes_of p t)) + passes_of p t ≤ rows t

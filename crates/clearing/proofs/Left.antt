@@ -27,7 +27,7 @@ use Rattle.supports.proofs.Rows.{on_support}
 use Rattle.subtables.specs.Subtable.{table_of}
 use Rattle.subtables.proofs.Rows.{Numbers, indices_numbers, table_count, table_byte, table_place}
 use Rattle.subtables.proofs.Tables.{find_among}
-use Rattle.clearing.specs.Passes.{unnamed_from, issues_among, left}
+use Rattle.passes.specs.Passes.{unnamed_from, issues_among, left}
 use Rattle.clearing.specs.Kept.{is_left}
 use Rattle.clearing.proofs.Steps.{lacks_among, still_left}
 use Rattle.clearing.proofs.Named.{one_index, named, unnamed_indices}

@@ -17,8 +17,8 @@ use Rattle.columns.proofs.Indices.{StandsIn, stands_later, index_kept, kept_inde
 use Rattle.blocks.specs.Kind.{one_of}
 use Rattle.world.specs.Rows.{rows}
 use Rattle.supports.specs.Supports.{lacks_support, support_issues}
-use Rattle.clearing.specs.Passes.{unnamed_from}
-use Rattle.clearing.specs.Laws.{row_one}
+use Rattle.passes.specs.Passes.{unnamed_from}
+use Rattle.passes.proofs.Laws.{row_one}
 
 -- ---- which numbers a list has
 

@@ -25,7 +25,7 @@ use Rattle.supports.specs.Supports.{needs_support, lacks_support, support_issues
 use Rattle.supports.specs.Rows.{support_row}
 use Rattle.subtables.specs.Subtable.{table_of}
 use Rattle.subtables.proofs.Rows.{indices_numbers, table_count}
-use Rattle.clearing.specs.Passes.{issues_among}
+use Rattle.passes.specs.Passes.{issues_among}
 use Rattle.clearing.specs.Largest.{HeldUpBy, HasSupport, EverySupported}
 use Rattle.clearing.proofs.Steps.{lacks_among, still_left}
 use Rattle.clearing.proofs.Left.{lacks-among, named_among}

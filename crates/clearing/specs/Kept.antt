@@ -6,8 +6,9 @@ use Rattle.columns.specs.First.{first_from, on_found}
 use Rattle.blocks.specs.Kind.{one_of}
 use Rattle.world.specs.Rows.{rows}
 use Rattle.subtables.specs.Subtable.{table_of}
-use Rattle.clearing.specs.Passes.{issues_among, left, Until}
-use Rattle.clearing.specs.Laws.{first_none, first_none_until}
+use Rattle.passes.specs.Passes.{issues_among, left, Until}
+use Rattle.passes.specs.Search.{first_none}
+use Rattle.passes.proofs.Laws.{first_none_until}
 
 -- row i goes in pass k + 1: it is left after k passes, and named by the support list of what is left then
 pub record Goes (p t : Bytes) (k i : ℕ) : Type 0 where

@@ -1,4 +1,2 @@
-pub mod Passes
-pub mod Laws
 pub mod Kept
 pub mod Largest

@@ -6,7 +6,9 @@ use Rattle.std.proofs.Common.{ap, sym, ◌∙◌, zero-add, add-zero, not-suc-le
 use Rattle.std.proofs.Math.Bool.{true, false, true≢false}
 use mathlib.Core.List.{List, [], ◌∷◌}
 use Prim.Native.Nat.{ℕ, zero, suc, ◌+◌, ◌≤◌, ◌<◌, zero-le}
+use native.Mathlib.Decide.{dec_lt}
 use native.Mathlib.Omega.{arith}
+use mathlib.Core.Logic.{by_cases}
 use Rattle.std.proofs.Math.ListN.{length}
 use Rattle.std.proofs.Math.Dec.{eqb}
 use Rattle.columns.specs.declared.Found.{Found}
@@ -21,7 +23,8 @@ use Rattle.world.specs.Rows.{rows}
 use Rattle.supports.specs.Supports.{lacks_support, support_issues}
 use Rattle.subtables.specs.Subtable.{table_of}
 use Rattle.subtables.proofs.Rows.{table_short}
-use Rattle.clearing.specs.Passes.{unnamed_from, issues_among, left, Until}
+use Rattle.passes.specs.Passes.{unnamed_from, issues_among, left, Until}
+use Rattle.passes.specs.Search.{none_named, first_none}
 
 -- ---- one pass
 
@@ -59,10 +62,6 @@ module _ (names : List ℕ) where
       go false h = omega arith
 
 module _ (p t : Bytes) where
-  -- none is named after k passes
-  abbrev pub none_named : ℕ → Bool
-  none_named k = eqb (length (issues_among p t (left p t k))) 0
-
   -- the first that is named is one of the rows left
   pub first_named : (k : ℕ) → 0 < length (issues_among p t (left p t k)) → row (issues_among p t (left p t k)) 0 < length (left p t k)
   unfolding support_issues
@@ -70,7 +69,7 @@ module _ (p t : Bytes) where
       let table = table_of t (left p t k) in
       omega (arith, (index_kept (lacks_support p table) (rows table) 0 0 some).below, table_short t (left p t k))
 
-  pass_fewer : (k : ℕ) → none_named k ≡ false → length (left p t (suc k)) < length (left p t k)
+  pass_fewer : (k : ℕ) → none_named p t k ≡ false → length (left p t (suc k)) < length (left p t k)
   unfolding left
   pass_fewer k h =
       let names = issues_among p t (left p t k) in
@@ -86,23 +85,25 @@ module _ (p t : Bytes) where
   all_few = length_indices (λ i. true) (rows t) 0
 
   -- after k passes that each removed a row, at least k are gone
-  pub left_few : (k : ℕ) → ((j : ℕ) → j < k → none_named j ≡ false) → length (left p t k) + k ≤ rows t
+  pub left_few : (k : ℕ) → ((j : ℕ) → j < k → none_named p t j ≡ false) → length (left p t k) + k ≤ rows t
   left_few zero h = omega (arith, all_few)
   left_few (suc k) h = omega (arith, left_few k (λ j l. h j (omega arith)), pass_fewer k (h k (omega arith)))
 
-  -- the first number of passes after which none is named
-  unfoldable pub first_none : ℕ
-  first_none = on_found (λ k. k) 0 (first_from none_named (rows t + 1) 0)
-
-  pub first_none_until : Until p t first_none
+  pub first_none_until : Until p t (first_none p t)
   unfolding first_none
-  first_none_until = go (first_from none_named (rows t + 1) 0) refl
+  first_none_until = go (first_from (none_named p t) (rows t + 1) 0) refl
     where
-      go : (x : Found) → first_from none_named (rows t + 1) 0 ≡ x → Until p t (on_found (λ k. k) 0 x)
-      go Nothing e = absurd (omega (arith, left_few (rows t + 1) (λ j l. first-none none_named (rows t + 1) 0 e j zero-le (omega arith))))
+      go : (x : Found) → first_from (none_named p t) (rows t + 1) 0 ≡ x → Until p t (on_found (λ k. k) 0 x)
+      go Nothing e = absurd (omega (arith, left_few (rows t + 1) (λ j l. first-none (none_named p t) (rows t + 1) 0 e j zero-le (omega arith))))
       go (At k) e =
-          let first = first_at none_named (rows t + 1) 0 k e in
+          let first = first_at (none_named p t) (rows t + 1) 0 k e in
           record {
             none = none_in (issues_among p t (left p t k)) (eqb-true _ 0 first.holds);
             not_yet = λ j l n. true≢false (sym (eq-eqb _ 0 (ap length n)) ∙ first.earlier j zero-le l);
           }
+
+  -- no two numbers of passes are such
+  pub until_one : (j k : ℕ) → Until p t j → Until p t k → j ≡ k
+  until_one j k u v =
+      by_cases (dec_lt j k) (λ l. absurd (v.not_yet j l u.none))
+      (λ m. by_cases (dec_lt k j) (λ l. absurd (u.not_yet k l v.none)) (λ n. omega arith))
