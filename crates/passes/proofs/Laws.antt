@@ -24,6 +24,7 @@ use Rattle.supports.specs.Supports.{lacks_support, support_issues}
 use Rattle.subtables.specs.Subtable.{table_of}
 use Rattle.subtables.proofs.Rows.{table_short}
 use Rattle.passes.specs.Passes.{unnamed_from, issues_among, left, Until}
+use Rattle.passes.proofs.Short.{unnamed_short}
 use Rattle.passes.specs.Search.{none_named, first_none}
 
 -- ---- one pass
@@ -39,20 +40,11 @@ row_one (x ∷ xs) (suc k) l = go (eqb (row xs k) x) (row_one xs k (omega arith)
     go false h = h
 
 module _ (names : List ℕ) where
-  unnamed_short : (k : ℕ) (xs : List ℕ) → length (unnamed_from names k xs) ≤ length xs
-  unfolding unnamed_from
-  unnamed_short k [] = omega arith
-  unnamed_short k (x ∷ xs) = go (not (one_of names k)) (unnamed_short (k + 1) xs)
-    where
-      go : (b : Bool) → length (unnamed_from names (k + 1) xs) ≤ length xs → length (keep_if b x (unnamed_from names (k + 1) xs)) ≤ suc (length xs)
-      go true h = omega arith
-      go false h = omega arith
-
   -- fewer are left, where an index is named
   unnamed_fewer : (k : ℕ) (xs : List ℕ) (j : ℕ) → j < length xs → one_of names (k + j) ≡ true → length (unnamed_from names k xs) < length xs
   unfolding unnamed_from
   unnamed_fewer k [] j l h = absurd (not-suc-le-zero l)
-  unnamed_fewer k (x ∷ xs) zero l h = rw (rw (add-zero k) at h) (omega (arith, unnamed_short (k + 1) xs))
+  unnamed_fewer k (x ∷ xs) zero l h = rw (rw (add-zero k) at h) (omega (arith, unnamed_short names (k + 1) xs))
   unnamed_fewer k (x ∷ xs) (suc j) l h =
       let next : k + 1 + j ≡ k + suc j = omega arith in
       go (not (one_of names k)) (unnamed_fewer (k + 1) xs j (omega arith) (rw next h))
