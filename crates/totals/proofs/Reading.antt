@@ -13,7 +13,7 @@ use Rattle.electrical.specs.Answer.{rounds_of, settled}
 use Rattle.updates.specs.State.{fresh_devices}
 use Rattle.streams.specs.declared.Ending.{Ending}
 use Rattle.streams.specs.declared.Ending.TheVariants.{Whole}
-use Rattle.streams.specs.Stream.{table_bytes, first_table, Stream, ends_as, read_within, most_tables, stream_of}
+use Rattle.streams.specs.Stream.{table_bytes, first_table, ends_as, read_within, most_tables, stream_of}
 use Rattle.streams.proofs.Streams.{IsTable, few_tables, joined, read_nothing, read_append, read_piece}
 use Rattle.figures.specs.declared.Figures.{Figures}
 use Rattle.figures.specs.Figures.{sum_of, figures_of, added, with_settled}

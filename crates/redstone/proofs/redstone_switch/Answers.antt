@@ -1,5 +1,4 @@
 -- `redstone::redstone_switch` meets its contract: a coordinate that is handed on is read back from its bits. Assumes nothing.
-use borrow.Author.Rules.{rules}
 use Rattle.places.proofs.Signs.{back32}
 use Rattle.redstone.proofs.redstone_switch.Goals as goal
 

@@ -1,26 +1,22 @@
 -- `report::parted` meets its contract: the profile is no longer than the input. Assumes nothing.
 use mathlib.Core.Path.{◌≡◌}
-use Prim.Native.Nat.{◌-◌, ◌≤◌}
+use Prim.Native.Nat.{◌-◌}
 use native.Mathlib.Nat.{sub-zero}
 use native.Mathlib.Omega.{arith}
 use lib.ListN.{length, take, length-drop}
 use lib.Seq.{take_all}
-use borrow.Author.Rules.{rules}
 use Rattle.report.specs.Text.{table_of, profile_bytes}
 use Rattle.report.proofs.Run.{profile_fits}
 use Rattle.report.proofs.parted.Goals as goal
 
-fits : (c : goal.After-profile_bytes-end) → c.profile_bytes-end.result ≤ length c.args.input.now
-fits c = let s = c in rw c.profile_bytes-end.ensures (profile_fits s.args.input.now s.requires.0)
-
 pub slice_bounds-checked-end : goal.slice_bounds-checked-end
-slice_bounds-checked-end c = fits c
+slice_bounds-checked-end c = rw c.profile_bytes-end.ensures (profile_fits c.args.input.now c.requires.0)
 
 pub slice_bounds-checked-count-2 : goal.slice_bounds-checked-count-2
-slice_bounds-checked-count-2 c = fits c
+slice_bounds-checked-count-2 c = rw c.profile_bytes-end.ensures (profile_fits c.args.input.now c.requires.0)
 
 pub slice_bounds-checked-start-2 : goal.slice_bounds-checked-start-2
-slice_bounds-checked-start-2 c = fits c
+slice_bounds-checked-start-2 c = rw c.profile_bytes-end.ensures (profile_fits c.args.input.now c.requires.0)
 
 pub returns : goal.returns
 returns c = let put = c in

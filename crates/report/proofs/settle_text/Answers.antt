@@ -2,7 +2,6 @@
 use native.Mathlib.Omega.{arith}
 use lib.ListN.{length}
 use borrow.Author.Tests.{lt-leb, le-leb}
-use borrow.Author.Rules.{rules}
 use Rattle.report.specs.Text.{reported}
 use Rattle.text.proofs.Putting.{puts_front, puts_length}
 use Rattle.report.proofs.settle_text.Goals as goal

@@ -1,9 +1,8 @@
 -- Answers of `totals::read`.
 use mathlib.Core.Path.{◌≡◌, sym, ap, ◌∙◌}
-use mathlib.Core.List.{◌++◌}
-use Prim.Native.Nat.{ℕ, ◌+◌, ◌*◌, ◌-◌, ◌≤◌, ◌<◌}
+use Prim.Native.Nat.{ℕ, ◌*◌, ◌<◌}
 use native.Mathlib.Omega.{arith}
-use lib.ListN.{length, take, drop}
+use lib.ListN.{take, drop}
 use Rattle.columns.specs.Column.{Bytes}
 use Rattle.words.specs.Words.{word}
 use Rattle.streams.specs.Stream.{table_bytes, first_table, front_of, ends_as, read_within}
@@ -11,7 +10,7 @@ use Rattle.streams.specs.declared.Ending.{Ending}
 use Rattle.streams.specs.declared.Front.{Front}
 use Rattle.streams.specs.declared.Front.TheVariants.{Table, Ends}
 use Rattle.streams.proofs.Streams.{IsTable, front_table, front_ends}
-use Rattle.totals.proofs.Reading.{few_rows, Reading, month_reading, reading_few, reading_room, SoFar, so_far_none, table_fits, so_far_more, so_far_ends}
+use Rattle.totals.proofs.Reading.{few_rows, month_reading, reading_few, reading_room, so_far_none, table_fits, so_far_more, so_far_ends}
 use Rattle.totals.proofs.read.Goals as goal
 
 -- Where the front of the bytes left says so, a table stands there,
@@ -19,8 +18,8 @@ table : {left : ℕ} {rest shown : Bytes} {f : Front} → shown ≡ rest → f �
 table {left} {rest} same is none = front_table left rest (sym (rw same at is) ∙ none)
 
 -- and where it says how the reading ends, so it ends.
-ended : {left : ℕ} {rest shown : Bytes} {f : Front} {e : Ending} → shown ≡ rest → f ≡ front_of left shown → f ≡ Ends e → read_within left rest ≡ ends_as e
-ended {left} {rest} same is ends = front_ends left rest _ (sym (rw same at is) ∙ ends)
+ended : (left : ℕ) {rest shown : Bytes} {f : Front} {e : Ending} → shown ≡ rest → f ≡ front_of left shown → f ≡ Ends e → read_within left rest ≡ ends_as e
+ended left {rest} same is ends = front_ends left rest _ (sym (rw same at is) ∙ ends)
 
 -- The table has so many bytes.
 size : {rest shown : Bytes} {n : ℕ} → shown ≡ rest → n ≡ word shown → n * 32 ≡ table_bytes rest
@@ -49,7 +48,7 @@ overflow_sub-left c =
 pub returns-in-Ends : goal.returns-in-Ends
 returns-in-Ends c =
     let inv = c.loop-ending.invariant in
-    let ends = ended c.from-rest.ensures c.front_of.ensures c.in-Ends.is in
+    let ends = ended _ c.from-rest.ensures c.front_of.ensures c.in-Ends.is in
     record { is = λ s e. so_far_ends inv _ ends s (month_reading e c.requires.whole) }
 
 pub overflow_mul-n : goal.overflow_mul-n

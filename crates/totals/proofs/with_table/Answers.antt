@@ -1,7 +1,6 @@
 -- `totals::with_table` meets its contract. Assumes nothing.
-use mathlib.Core.Path.{◌≡◌, sym, ap, ◌∙◌}
-use Prim.Native.Nat.{ℕ, ◌<◌, ◌≤◌}
-use native.Mathlib.Omega.{arith}
+use mathlib.Core.Path.{sym, ap, ◌∙◌}
+use Prim.Native.Nat.{ℕ, ◌<◌}
 use lib.ListN.{take}
 use lib.Seq.{length-take-le}
 use Rattle.columns.specs.Column.{Bytes}
