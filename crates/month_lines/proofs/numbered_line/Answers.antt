@@ -11,5 +11,5 @@ unfolding numbered_line
 returns c = let figure = c in
     let number = figure in
     let name = number in
-    let p = puts_then (puts_then name.bytes-number.ensures number.number-figure.ensures.0) figure.number.ensures.0 in
-    (simp append_assoc (simp append_assoc at p), omega (arith, name.bytes-number.ensures.end, number.number-figure.ensures.1, figure.number.ensures.1))
+    let p = puts_then (puts_then name.bytes-number.ensures number.number-figure.ensures.puts) figure.number.ensures.puts in
+    record { puts = simp append_assoc (simp append_assoc at p); few = omega (arith, name.bytes-number.ensures.end, number.number-figure.ensures.few, figure.number.ensures.few) }
