@@ -1,6 +1,4 @@
 -- `month_lines::all_lines` meets its contract: one part after the other. Assumes nothing.
-use mathlib.Core.List.{append_assoc}
-use borrow.Author.Rules.{rules}
 use Rattle.text.proofs.Putting.{puts_then}
 use Rattle.month_lines.specs.Lines.{month_text}
 use Rattle.month_lines.proofs.all_lines.Goals as goal

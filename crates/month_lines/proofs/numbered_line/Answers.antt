@@ -1,7 +1,6 @@
 -- `month_lines::numbered_line` meets its contract. Assumes nothing.
 use mathlib.Core.List.{append_assoc}
 use native.Mathlib.Omega.{arith}
-use borrow.Author.Rules.{rules}
 use Rattle.text.proofs.Putting.{puts_then}
 use Rattle.month_lines.specs.Lines.{numbered_line}
 use Rattle.month_lines.proofs.numbered_line.Goals as goal

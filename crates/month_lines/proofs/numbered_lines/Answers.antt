@@ -1,14 +1,12 @@
 -- Answers of `month_lines::numbered_lines`.
 use mathlib.Core.Path.{◌≡◌, ap, ◌∙◌}
 use mathlib.Core.List.{◌++◌}
-use Prim.Native.Nat.{ℕ, ◌+◌, ◌*◌, ◌-◌, ◌≤◌}
+use Prim.Native.Nat.{ℕ, ◌+◌}
 use native.Mathlib.Nat.{zero-add}
 use native.Mathlib.Omega.{arith}
 use lib.ListN.{length}
-use borrow.Author.Rules.{rules}
 use Rattle.columns.specs.Column.{Bytes, row, concat_rows_from, concat_rows}
 use Rattle.columns.proofs.Parts.{concat_rows_more}
-use Rattle.text.specs.Put.{Puts}
 use Rattle.text.proofs.Putting.{puts_none, puts_then, puts_length}
 use Rattle.month_lines.specs.Lines.{numbered_line, numbered_lines}
 use Rattle.month_lines.proofs.numbered_lines.Goals as goal

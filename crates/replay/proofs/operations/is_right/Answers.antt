@@ -1,7 +1,6 @@
 -- `replay::operations::is_right` meets its contract, by the operation. Assumes nothing.
 use native.Mathlib.Omega.{arith}
 use borrow.Author.Tests.{ne_eqb}
-use borrow.Author.Rules.{rules}
 use Rattle.replay.specs.Operations.{is_right}
 use Rattle.replay.proofs.operations.is_right.Goals as goal
 
