@@ -1,6 +1,5 @@
 -- `calls::fresh_in` meets its contract. Assumes nothing.
 use Rattle.calls.proofs.Agreeing.{fresh_agrees}
-use borrow.Author.Rules.{rules}
 use Rattle.calls.proofs.fresh_in.Goals as goal
 
 pub returns : goal.returns

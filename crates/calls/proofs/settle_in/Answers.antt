@@ -1,6 +1,5 @@
 -- `calls::settle_in` meets its contract. Assumes nothing.
 use Rattle.calls.proofs.Agreeing.{settle_agrees}
-use borrow.Author.Rules.{rules}
 use Rattle.calls.proofs.settle_in.Goals as goal
 
 pub returns : goal.returns

@@ -1,5 +1,4 @@
 -- `month_lines::ended_line` meets its contract, ending by ending. Assumes nothing.
-use borrow.Author.Rules.{rules}
 use Rattle.month_lines.proofs.ended_line.Goals as goal
 
 pub returns-in-Whole : goal.returns-in-Whole

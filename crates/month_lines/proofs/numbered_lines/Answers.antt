@@ -1,14 +1,12 @@
 -- Answers of `month_lines::numbered_lines`.
 use mathlib.Core.Path.{◌≡◌, ap, ◌∙◌}
 use mathlib.Core.List.{◌++◌}
-use Prim.Native.Nat.{ℕ, ◌+◌, ◌*◌, ◌-◌, ◌≤◌}
+use Prim.Native.Nat.{ℕ, ◌+◌}
 use native.Mathlib.Nat.{zero-add}
 use native.Mathlib.Omega.{arith}
 use lib.ListN.{length}
-use borrow.Author.Rules.{rules}
 use Rattle.columns.specs.Column.{Bytes, row, concat_rows_from, concat_rows}
 use Rattle.columns.proofs.Parts.{concat_rows_more}
-use Rattle.text.specs.Put.{Puts}
 use Rattle.text.proofs.Putting.{puts_none, puts_then, puts_length}
 use Rattle.month_lines.specs.Lines.{numbered_line, numbered_lines}
 use Rattle.month_lines.proofs.numbered_lines.Goals as goal
@@ -30,7 +28,7 @@ loop-k-preserved c = let l = c in
     let f : ℕ → Bytes = λ j. numbered_line a.name.now (a.first + j) (row a.counts.now j) in
     let more : concat_rows (k + 1) f ≡ concat_rows k f ++ f k = concat_rows_more k 0 f ∙ ap (λ j. concat_rows k f ++ f j) (zero-add k) in
     let put = c.numbered_line-end.ensures in
-    (omega arith, omega (arith, put.1, l.loop-k.invariant.1), rw more (puts_then l.loop-k.invariant.2 put.0))
+    (omega arith, omega (arith, put.few, l.loop-k.invariant.1), rw more (puts_then l.loop-k.invariant.2 put.puts))
 
 pub shape_of-out : goal.shape_of-out
 shape_of-out c = puts_length c.loop-k.invariant.2
@@ -40,4 +38,4 @@ unfolding numbered_lines
 returns c = let l = c in
     let s = l in
     let all : l.loop-k.k ≡ length s.args.counts.now = omega arith in
-    (rw all at l.loop-k.invariant.2, rw (← all) l.loop-k.invariant.1)
+    record { puts = rw all at l.loop-k.invariant.2; few = rw (← all) l.loop-k.invariant.1 }

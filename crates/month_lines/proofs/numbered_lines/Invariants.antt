@@ -1,16 +1,9 @@
 -- `month_lines::numbered_lines` meets its contract. The loop's invariant: the lines of the first `k` figures are put. Assumes nothing.
-use mathlib.Core.Path.{◌≡◌, ap, ◌∙◌}
-use mathlib.Core.List.{◌++◌}
-use Prim.Native.Nat.{ℕ, ◌+◌, ◌*◌, ◌-◌, ◌≤◌}
-use native.Mathlib.Nat.{zero-add}
-use native.Mathlib.Omega.{arith}
+use Prim.Native.Nat.{◌+◌, ◌*◌, ◌-◌, ◌≤◌}
 use lib.ListN.{length}
-use borrow.Author.Rules.{rules}
-use Rattle.columns.specs.Column.{Bytes, row, concat_rows_from, concat_rows}
-use Rattle.columns.proofs.Parts.{concat_rows_more}
+use Rattle.columns.specs.Column.{row, concat_rows}
 use Rattle.text.specs.Put.{Puts}
-use Rattle.text.proofs.Putting.{puts_none, puts_then, puts_length}
-use Rattle.month_lines.specs.Lines.{numbered_line, numbered_lines}
+use Rattle.month_lines.specs.Lines.{numbered_line}
 use Rattle.month_lines.proofs.numbered_lines.Given as goal
 
 abbrev pub invariant-loop-k : goal.invariant-loop-k

@@ -1,5 +1,4 @@
 -- `month_lines::text_of` meets its contract. Assumes nothing.
-use borrow.Author.Rules.{rules}
 use Rattle.month_lines.specs.Lines.{text_of}
 use Rattle.month_lines.proofs.text_of.Goals as goal
 

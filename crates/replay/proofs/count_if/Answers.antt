@@ -1,5 +1,4 @@
 -- `replay::count_if` meets its contract. Assumes nothing.
-use borrow.Author.Rules.{rules}
 use Rattle.replay.proofs.count_if.Goals as goal
 
 pub returns-then-b : goal.returns-then-b

@@ -1,6 +1,5 @@
 -- `tick_calls::ticks_in` meets its contract. Assumes nothing.
 use Rattle.calls.proofs.Agreeing.{ticks_agree}
-use borrow.Author.Rules.{rules}
 use Rattle.tick_calls.proofs.ticks_in.Goals as goal
 
 pub returns : goal.returns

@@ -1,6 +1,6 @@
 -- `replay::operations::call_right` meets its contract, by the operation. Assumes nothing.
+use native.Mathlib.Omega.{arith}
 use borrow.Author.Tests.{ne_eqb}
-use borrow.Author.Rules.{rules}
 use Rattle.replay.proofs.operations.call_right.Goals as goal
 
 pub returns-in-10 : goal.returns-in-10
@@ -16,5 +16,4 @@ pub returns-in-13 : goal.returns-in-13
 returns-in-13 c = rw c.in-13.is c.switch_right.ensures
 
 pub returns-in_default : goal.returns-in_default
-returns-in_default c = let none = c.in_default.in_default-own.rest in
-    rw (ne_eqb _ 10 none.0.0.0.1, ne_eqb _ 11 none.0.0.1, ne_eqb _ 12 none.0.1, ne_eqb _ 13 none.1)
+returns-in_default c = rw (ne_eqb c.args.operation 10 (λ e. omega arith), ne_eqb c.args.operation 11 (λ e. omega arith), ne_eqb c.args.operation 12 (λ e. omega arith), ne_eqb c.args.operation 13 (λ e. omega arith))

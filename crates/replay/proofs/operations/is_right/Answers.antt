@@ -1,6 +1,6 @@
 -- `replay::operations::is_right` meets its contract, by the operation. Assumes nothing.
+use native.Mathlib.Omega.{arith}
 use borrow.Author.Tests.{ne_eqb}
-use borrow.Author.Rules.{rules}
 use Rattle.replay.specs.Operations.{is_right}
 use Rattle.replay.proofs.operations.is_right.Goals as goal
 
@@ -30,6 +30,5 @@ returns-in-6 c = rw (← c.byte_at-operation.ensures, c.in-6.is) c.offset_right.
 
 pub returns-in_default : goal.returns-in_default
 unfolding is_right
-returns-in_default c = let none = c.in_default.in_default-own.rest in
-    let o = c.byte_at-operation in
-    rw (← o.ensures, ne_eqb o.result 1 none.0.0.0.0.0.1, ne_eqb o.result 2 none.0.0.0.0.1, ne_eqb o.result 3 none.0.0.0.1, ne_eqb o.result 4 none.0.0.1, ne_eqb o.result 5 none.0.1, ne_eqb o.result 6 none.1) c.wire_right.ensures
+returns-in_default c = let o = c.byte_at-operation in
+    rw (← o.ensures, ne_eqb o.result 1 (λ e. omega arith), ne_eqb o.result 2 (λ e. omega arith), ne_eqb o.result 3 (λ e. omega arith), ne_eqb o.result 4 (λ e. omega arith), ne_eqb o.result 5 (λ e. omega arith), ne_eqb o.result 6 (λ e. omega arith)) c.wire_right.ensures

@@ -1,6 +1,6 @@
 -- `replay::operations::wire_right` meets its contract, by the operation. Assumes nothing.
+use native.Mathlib.Omega.{arith}
 use borrow.Author.Tests.{ne_eqb}
-use borrow.Author.Rules.{rules}
 use Rattle.replay.proofs.operations.wire_right.Goals as goal
 
 pub returns-in-7 : goal.returns-in-7
@@ -13,5 +13,4 @@ pub returns-in-9 : goal.returns-in-9
 returns-in-9 c = rw c.in-9.is c.redraw_right.ensures
 
 pub returns-in_default : goal.returns-in_default
-returns-in_default c = let none = c.in_default.in_default-own.rest in
-    rw (ne_eqb _ 7 none.0.0.1, ne_eqb _ 8 none.0.1, ne_eqb _ 9 none.1) c.call_right.ensures
+returns-in_default c = rw (ne_eqb c.args.operation 7 (λ e. omega arith), ne_eqb c.args.operation 8 (λ e. omega arith), ne_eqb c.args.operation 9 (λ e. omega arith)) c.call_right.ensures
