@@ -28,7 +28,7 @@ pub use faults::{
 };
 pub use full::full_tables;
 pub use keys::{Keys, READING, Reading};
-pub use misreadings::{LINES_GOING_ON, MISPLACINGS, MISREADINGS, Misreading};
+pub use misreadings::{LINES_GOING_ON, MISPLACINGS, MISREADINGS, Misreading, SEARCHES};
 pub use written::{ByHand, TABLES, Trial, lines, single_rows, turned};
 
 /// The plain way.

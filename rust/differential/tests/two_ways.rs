@@ -16,9 +16,9 @@ use differential::suite::{
 };
 use differential::two_ways::{
     ALTERATIONS, ByRounds, Keys, LARGE, LINES_GOING_ON, MISPLACINGS, MISREADINGS, Misreading, READING,
-    Refused, TABLES, Trial, all_combinations, by_rounds_after, compare_case, device_bytes, device_columns,
-    full_tables, in_every_order, lengths, limits, limits_beside_faults, lines, queries, settle, single_bytes,
-    single_rows, turned,
+    Refused, SEARCHES, TABLES, Trial, all_combinations, by_rounds_after, compare_case, device_bytes,
+    device_columns, full_tables, in_every_order, lengths, limits, limits_beside_faults, lines, queries,
+    settle, single_bytes, single_rows, turned,
 };
 use differential::{bulb, feeders, positions, table, torch};
 use redstone::{Kind, MOST_ROWS, Row, STATE_BYTES};
@@ -344,7 +344,7 @@ fn altered_answers_are_reported() {
 }
 
 fn all_misreadings() -> impl Iterator<Item = &'static Misreading> {
-    MISREADINGS.iter().chain(&MISPLACINGS).chain(&LINES_GOING_ON)
+    MISREADINGS.iter().chain(&MISPLACINGS).chain(&SEARCHES)
 }
 
 /// Whether the keys read so answer a call otherwise.
@@ -392,9 +392,10 @@ fn generated_tables_tell_wrong_readings() {
 /// By each profile.
 #[test]
 fn the_ends_of_every_line_tell_lines_that_go_on() {
-    let cases: Vec<_> = full_tables().filter(|case| case.sort == "the ends of every line").collect();
+    let is_lit = |case: &Case| case.sort == "the ends of every line, the last ones lit";
+    let cases: Vec<_> = full_tables().filter(is_lit).collect();
     assert_eq!(cases.len(), 3);
-    for misreading in &LINES_GOING_ON {
+    for misreading in LINES_GOING_ON {
         assert!(cases.iter().all(|case| is_told_by(misreading, case)), "{}", misreading.what);
     }
 }

@@ -12,14 +12,16 @@ const ALL_PROFILE: [u8; 14] = [0, 31, 31, 31, 63, 31, 31, 31, 31, 31, 31, 31, 31
 /// No row does.
 const NO_PROFILE: [u8; 14] = [0; 14];
 
-/// Each shape by the bench profile with the bulb; and every third by a profile of which every kind has all and by one of which
-/// no kind has anything, too.
+/// Each shape by the bench profile with the bulb; every third by a profile of which every kind has all and by one of which no
+/// kind has anything, too; and the lit ends of lines by all three.
 pub fn full_tables() -> impl Iterator<Item = Case> {
     let bench = shapes().into_iter().map(|(sort, rows)| full(sort, BENCH_PROFILE_WITH_BULB, rows));
     let others = [ALL_PROFILE, NO_PROFILE].into_iter().flat_map(|profile| {
         shapes().into_iter().step_by(3).map(move |(sort, rows)| full(sort, profile, rows))
     });
-    bench.chain(others)
+    let lit = [BENCH_PROFILE_WITH_BULB, ALL_PROFILE, NO_PROFILE]
+        .map(|profile| full("the ends of every line, the last ones lit", profile, lit_ends()));
+    bench.chain(others).chain(lit)
 }
 
 fn full(sort: &'static str, profile: [u8; 14], rows: Vec<Row>) -> Case {
@@ -118,18 +120,27 @@ fn scattered() -> Vec<Row> {
     (0..MOST_ROWS as i32 / 2).flat_map(pair).collect()
 }
 
-/// Of lines side by side the two first cells and the two last: dust, and in every other line a redstone block before the last
-/// cell. No power comes to the first cells.
+/// Of lines side by side the first cell, the last and those beside them: dust and redstone blocks by turns.
 fn ends_of_lines() -> Vec<Row> {
     let ends = [-FARTHEST, 1 - FARTHEST, FARTHEST - 1, FARTHEST];
     let lines = shapes::lattice([16, 16, 1], 1);
     let line = |[x, y, _]: Position| {
         ends.map(|z| {
-            let is_source = y % 2 == 0 && z == FARTHEST - 1;
-            Row::new(if is_source { Kind::RedstoneBlock } else { Kind::RedstoneWire }, [x, y, z])
+            let kind = if (x + y) % 2 == i32::from(z > 0) { Kind::RedstoneWire } else { Kind::RedstoneBlock };
+            Row::new(kind, [x, y, z])
         })
     };
     lines.flat_map(line).collect()
+}
+
+/// The same cells: dust, and in every other line a redstone block before the last cell. No power comes to the first cells.
+fn lit_ends() -> Vec<Row> {
+    let cell = |row: Row| {
+        let [_, y, z] = row.position();
+        let is_source = y % 2 == 0 && z == FARTHEST - 1;
+        Row::new(if is_source { Kind::RedstoneBlock } else { Kind::RedstoneWire }, row.position())
+    };
+    ends_of_lines().into_iter().map(cell).collect()
 }
 
 /// Repeaters, comparators, torches, levers, lamps and bulbs in every facing, side by side.

@@ -152,29 +152,13 @@ pub const MISREADINGS: [Misreading; 51] = [
     }),
 ];
 
-/// Wrong readings of what is past the end of a line, which the full table of such ends must tell, too.
-pub const LINES_GOING_ON: [Misreading; 3] = [
-    misreading("a search past the end of a line finds the next one", |reading| {
-        reading.found = |[x, y, z]| match z {
-            FARTHEST => Some([x, y + 1, -FARTHEST - 1]),
-            _ => (z == -FARTHEST).then_some([x, y - 1, FARTHEST + 1]),
-        };
-    }),
+/// Wrong readings of where rows are, which show at the ends of the ground and at corners alone.
+pub const MISPLACINGS: [Misreading; 9] = [
     misreading("a line goes on at the next cell above", |reading| {
         reading.place = |[x, y, z]| if z == -FARTHEST { [x, y - 1, FARTHEST + 1] } else { [x, y, z] };
     }),
     misreading("a line goes on at the next cell below", |reading| {
         reading.place = |[x, y, z]| if z == FARTHEST { [x, y + 1, -FARTHEST - 1] } else { [x, y, z] };
-    }),
-];
-
-/// Wrong readings of where rows are, which show at the ends of the ground and at corners alone.
-pub const MISPLACINGS: [Misreading; 8] = [
-    misreading("a search past the end of a column finds the next one", |reading| {
-        reading.found = |[x, y, z]| match y {
-            FARTHEST => Some([x + 1, -FARTHEST - 1, z]),
-            _ => (y == -FARTHEST).then_some([x - 1, FARTHEST + 1, z]),
-        };
     }),
     misreading("a column goes on at the next cell to the East", |reading| {
         reading.place = |[x, y, z]| if y == -FARTHEST { [x - 1, FARTHEST + 1, z] } else { [x, y, z] };
@@ -201,3 +185,22 @@ pub const MISPLACINGS: [Misreading; 8] = [
         reading.support = |step| (step != [0; 3]).then_some(step.map(i32::from));
     }),
 ];
+
+/// Wrong readings of where else a search finds rows, which show at the ends of the ground alone.
+pub const SEARCHES: [Misreading; 2] = [
+    misreading("a search past the end of a line finds the next one", |reading| {
+        reading.found = |[x, y, z]| match z {
+            FARTHEST => Some([x, y + 1, -FARTHEST - 1]),
+            _ => (z == -FARTHEST).then_some([x, y - 1, FARTHEST + 1]),
+        };
+    }),
+    misreading("a search past the end of a column finds the next one", |reading| {
+        reading.found = |[x, y, z]| match y {
+            FARTHEST => Some([x + 1, -FARTHEST - 1, z]),
+            _ => (y == -FARTHEST).then_some([x - 1, FARTHEST + 1, z]),
+        };
+    }),
+];
+
+/// Those of what is past the end of a line, which a full table of such ends must tell, too.
+pub const LINES_GOING_ON: [&Misreading; 3] = [&SEARCHES[0], &MISPLACINGS[0], &MISPLACINGS[1]];

@@ -576,7 +576,7 @@ pub const TABLES: [ByHand; 44] = [
         ],
     ),
     table(
-        "cells that are the same or side by side but for 2 to the power of 20",
+        "cells that are the same but for 2 to the power of 20 or of 21",
         2,
         &[
             ("0,0,0 RedstoneBlock", [15, 0, 0]),
