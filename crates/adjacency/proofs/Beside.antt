@@ -7,6 +7,7 @@ use Prim.Native.Nat.{ℕ, zero, suc, ◌+◌, ◌*◌, ◌<◌}
 use native.Mathlib.Omega.{arith}
 use lib.ListN.{length}
 use lib.IntN.{ℤ}
+use lib.Dec.{leb}
 use borrow.Author.Tests.{leb-true, eqb-true, ne_eqb}
 use Rattle.columns.specs.Column.{Bytes, Column, row}
 use Rattle.columns.specs.First.{on_found}
@@ -39,7 +40,7 @@ unfolding signed8
 unit zero h = record { along = level; counts = refl }
 unit (suc zero) h = record { along = up; counts = refl }
 unit (suc (suc b)) h =
-    ⊎_elim (λ l. absurd (omega (arith, leb-true (suc (suc b)) 1 l)))
+    ⊎_elim (λ (l : leb (suc (suc b)) 1 ≡ true). absurd (omega (arith, leb-true (suc (suc b)) 1 l)))
     (λ e. rw (eqb-true (suc (suc b)) 255 e) (record { along = down; counts = refl }))
     (or_true _ _ h)
 

@@ -1,13 +1,18 @@
 -- Laws of the searches of a column that rises, by halves and by a walk.
 -- Assumes nothing.
 use mathlib.Core.Path.{◌≡◌, sym, ◌∙◌}
-use mathlib.Core.Bool.{false}
-use Prim.Native.Nat.{ℕ, zero, suc, ◌+◌, ◌-◌, ◌/◌, ◌≤◌, ◌<◌}
+use mathlib.Core.Bool.{true, false}
+use Prim.Native.Nat.{ℕ, zero, suc, ◌+◌, ◌-◌, ◌≤◌, ◌<◌}
 use native.Mathlib.Omega.{arith}
 use native.Mathlib.Nat.{not-suc-le-zero}
+use native.Mathlib.Decide.{dec_lt}
+use mathlib.Core.Logic.{by_cases}
+use lib.Dec.{ltb}
+use Rattle.std.specs.List.Sorted.{IsNonDecreasingBy, IsPartitionPoint}
+use Rattle.std.proofs.lemmas.List.Sorted.{IsNonDecreasingBy-from_default}
 use lib.ListN.{length, set}
 use borrow.Author.Count.{below_more}
-use borrow.Author.Tests.{lt-ltb, le-ltb, eq-eqb, ne_eqb}
+use borrow.Author.Tests.{lt-ltb, le-ltb, ltb-true, ltb-false, eq-eqb, ne_eqb}
 use Rattle.columns.specs.Column.{Column, row}
 use Rattle.columns.proofs.First.{at_first, none_first}
 use Rattle.columns.proofs.Columns.{Filled, filled_none, filled_more, filled_all}
@@ -52,41 +57,21 @@ module _ {s : Column} (r : Rising s) where
   pub rises_on : (i k : ℕ) → i < k → k < length s → row s i < row s k
   rises_on i k l h = let e : i + suc (k - suc i) ≡ k = omega arith in rw e at (from i (k - suc i) (omega arith))
 
--- ---- a search by halves
+-- ---- a search by halves, which is the library's
 
--- the rows below lo are below the number, and row hi is not
-pub record Halving (s : Column) (want lo hi : ℕ) : Type 0 where
-  pub order : lo ≤ hi
-  pub inside : hi ≤ length s
-  pub low : Passed s want lo
-  pub high : hi < length s → want ≤ row s hi
+pub ascending : {s : Column} → Rising s → IsNonDecreasingBy (λ x. x) s
+ascending {s} r = IsNonDecreasingBy-from_default (λ x. x) s 0 (λ i j l h. by_cases (dec_lt i j) (λ m. omega (arith, rises_on r i j m h)) (λ n. let e : i ≡ j = omega arith in rw e (omega arith)))
+
+-- where it ends, it has reached the number
+pub point_reached : (s : Column) (want p : ℕ) → p ≤ length s → IsPartitionPoint (λ y. ltb y want ≡ true) (λ y. ltb y want ≡ false) s p → Reached s want p
+point_reached s want p inside h =
+    record {
+      passed = record { within = inside; earlier = λ k l. ltb-true (row s k) want (h.0 k 0 (omega arith) l) };
+      past = λ l. ltb-false (row s p) want (h.1 p 0 (omega arith) l);
+    }
 
 pub none_passed : (s : Column) (want : ℕ) → Passed s want 0
 none_passed s want = record { within = omega arith; earlier = λ k l. absurd (not-suc-le-zero l) }
-
-pub halving_all : {s : Column} {want : ℕ} → Halving s want 0 (length s)
-halving_all {s} {want} = record { order = omega arith; inside = omega arith; low = none_passed s want; high = λ l. absurd (omega arith) }
-
-module _ {s : Column} {want lo hi : ℕ} (h : Halving s want lo hi) where
-  pub upper_half : Rising s → lo < hi → row s ((lo + hi) / 2) < want → Halving s want ((lo + hi) / 2 + 1) hi
-  upper_half r l m =
-      let middle = (lo + hi) / 2 in
-      record {
-        order = omega arith;
-        inside = h.inside;
-        low =
-            record {
-              within = omega (arith, h.inside);
-              earlier = below_more (λ k. row s k < want) middle (λ k n. omega (arith, rises_on r k middle n (omega (arith, h.inside)))) m;
-            };
-        high = h.high;
-      }
-
-  pub lower_half : lo < hi → want ≤ row s ((lo + hi) / 2) → Halving s want lo ((lo + hi) / 2)
-  lower_half l m = record { order = omega arith; inside = omega (arith, h.inside); low = h.low; high = λ _. m }
-
-  pub halving_end : hi ≤ lo → Reached s want lo
-  halving_end l = let same : lo ≡ hi = omega (arith, h.order) in record { passed = h.low; past = rw same h.high }
 
 -- ---- a walk: the rows at the step from the first i rows are found, and the search for the next is to go on at row p
 

@@ -1,11 +1,9 @@
 -- The rows by each row of a table: to the North, East, South and West of it, above and below it, and that of its support.
 -- Assumes nothing.
-use Rattle.std.specs.Prelude.{cond, ℕ, ◌+◌, ◌-◌, ◌*◌, eqb, ℤ, pos, negsuc}
+use Rattle.std.specs.Prelude.{cond, ℕ, ◌+◌, ◌-◌, ◌*◌, eqb, ℤ, pos, negsuc, Option, Some}
 use Rattle.columns.specs.Column.{Bytes, Column, tabulate, concat_rows}
 use Rattle.columns.specs.First.{on_found}
 use Rattle.places.specs.declared.Pos.{Pos}
-use Rattle.places.specs.declared.Place.{Place}
-use Rattle.places.specs.declared.Place.TheVariants.{There}
 use Rattle.places.specs.Places.{beside, above, below}
 use Rattle.world.specs.Rows.{rows, pos_of, support_of}
 use Rattle.world.specs.Find.{find_at}
@@ -13,10 +11,10 @@ use Rattle.classes.specs.Towards.{places, is_beside, Above, Below}
 use Rattle.circuit.specs.Circuit.{no_row}
 
 -- the place k by row i
-unfoldable pub place_by : Bytes → ℕ → ℕ → Place
+unfoldable pub place_by : Bytes → ℕ → ℕ → Option Pos
 place_by t i k =
-    cond (is_beside k) (There (beside (pos_of t i) (k + 1)))
-    (cond (eqb k Above) (There (above (pos_of t i))) (cond (eqb k Below) (There (below (pos_of t i))) (support_of t i)))
+    cond (is_beside k) (Some (beside (pos_of t i) (k + 1)))
+    (cond (eqb k Above) (Some (above (pos_of t i))) (cond (eqb k Below) (Some (below (pos_of t i))) (support_of t i)))
 
 -- the row there
 unfoldable pub row_by : Bytes → ℕ → ℕ → ℕ

@@ -62,22 +62,10 @@ fn fill_places(table: &[u8], positions: &[u64], near: &mut [u16])
     ensures { near.new ≡ near_of table.now }
 {
     let n = positions.len();
-    let mut place = 0;
-    while place < 7 {
+    for place in 0..7 {
         let start = place * n;
-        let end = start + n;
-        fill_place(table, positions, place, &mut near[start..end]);
-        place += 1;
+        fill_place(table, positions, place, &mut near[start..start + n]);
     }
-}
-
-// The same, with room for the positions.
-fn fill_near_in(table: &[u8], positions: &mut [u64], near: &mut [u16])
-    requires { Table table.now × (length positions.old ≡ rows table.now) × (length near.old ≡ places * rows table.now) }
-    ensures { near.new ≡ near_of table.now }
-{
-    fill_positions(table, positions);
-    fill_places(table, positions, near);
 }
 
 // The rows to the North, East, South and West of each row, above and below it, and that of its support, place by place.
@@ -86,6 +74,7 @@ pub fn fill_near(table: &[u8], near: &mut [u16])
     ensures { near.new ≡ near_of table.now }
 {
     let mut positions = [0u64; 1024];
-    let n = rows(table);
-    fill_near_in(table, &mut positions[0..n], near);
+    let positions = &mut positions[..rows(table)];
+    fill_positions(table, positions);
+    fill_places(table, positions, near);
 }

@@ -14,28 +14,18 @@ pub const Y: u64 = 2097152;
 // No step, packed as a position is, each coordinate counted from -1 on.
 pub const HERE: u64 = X + Y + 1;
 
-fn wide(b: u8) -> u32
-    ensures { (result ≡ b) × (result < 256) }
-{
-    b as u32
-}
-
-// The four bytes from byte b on of a row, low byte first.
+// The four bytes from byte b on of a row that the table has, low byte first.
 fn word_of(table: &[u8], row: usize, b: usize) -> u32
     requires { (row * 32 + 32 ≤ length table.now) × (b < 29) }
     ensures { result ≡ word_of table.now row b }
 {
     let start = row * 32;
-    wide(table[start + b])
-        + wide(table[start + (b + 1)]) * 256
-        + wide(table[start + (b + 2)]) * 65536
-        + wide(table[start + (b + 3)]) * 16777216
-}
-
-fn widest(n: u32) -> u64
-    ensures { (result ≡ n) × (result < 4294967296) }
-{
-    n as u64
+    u32::from_le_bytes([
+        table[start + b],
+        table[start + (b + 1)],
+        table[start + (b + 2)],
+        table[start + (b + 3)],
+    ])
 }
 
 // A coordinate, counted from -1,000,001 on.
@@ -43,7 +33,7 @@ fn biased(word: u32) -> u64
     requires { in_range (signed32 word) ≡ true }
     ensures { (result ≡ biased (signed32 word)) × (result ≤ 2000001) }
 {
-    (widest(word) + 1000001) % 4294967296
+    (u64::from(word) + 1000001) % 4294967296
 }
 
 fn packed_at(table: &[u8], row: usize) -> u64
@@ -54,11 +44,12 @@ fn packed_at(table: &[u8], row: usize) -> u64
         + (biased(word_of(table, row, 4)) * Y + biased(word_of(table, row, 8)))
 }
 
+#[tactic(auto, using(columns::proofs::Columns::fills), unfolding(crate::specs::Adjacency::positions_of))]
 pub fn fill_positions(table: &[u8], out: &mut [u64])
     requires { Table table.now × (length out.old ≡ rows table.now) }
     ensures { out.new ≡ positions_of table.now }
 {
-    for i in 0..out.len() {
-        out[i] = packed_at(table, i);
+    for (i, position) in out.iter_mut().enumerate() {
+        *position = packed_at(table, i);
     }
 }

@@ -10,14 +10,12 @@ fn advance(column: &[u64], from: usize, want: u64) -> usize
     requires { Passed column.now want from }
     ensures { Reached column.now want result }
 {
-    let mut p = from;
-    while p < column.len() {
+    for p in from..column.len() {
         if want <= column[p] {
             return p;
         }
-        p += 1;
     }
-    p
+    column.len()
 }
 
 // The same from the first row on, by halves.
@@ -25,17 +23,7 @@ fn halve(column: &[u64], want: u64) -> usize
     requires { Rising column.now }
     ensures { Reached column.now want result }
 {
-    let mut lo = 0;
-    let mut hi = column.len();
-    while lo < hi {
-        let middle = (lo + hi) / 2;
-        if column[middle] < want {
-            lo = middle + 1;
-        } else {
-            hi = middle;
-        }
-    }
-    lo
+    column.partition_point(|position| *position < want)
 }
 
 // The row that a search ended at, if it is the number.
@@ -65,9 +53,9 @@ pub fn walk(column: &[u64], step: u64, out: &mut [u16])
     ensures { out.new ≡ walked column.now step }
 {
     let mut p = 0;
-    for i in 0..out.len() {
+    for (i, row) in out.iter_mut().enumerate() {
         let want = column[i] + step - HERE;
         p = advance(column, p, want);
-        out[i] = if_is(column, want, p);
+        *row = if_is(column, want, p);
     }
 }

@@ -13,7 +13,7 @@ use circuit::sinks::NO_ROW;
 fn unit(b: u8) -> u64
     ensures { (result ≡ unit_of b) × (result < 256) }
 {
-    ((b as u64) + 1) % 256
+    u64::from(b.wrapping_add(1))
 }
 
 // The step to the support, packed as a position is.
@@ -35,11 +35,12 @@ fn support_at(table: &[u8], positions: &[u64], row: usize) -> u16
     NO_ROW
 }
 
+#[tactic(auto, using(columns::proofs::Columns::fills))]
 pub fn fill_supports(table: &[u8], positions: &[u64], out: &mut [u16])
     requires { Placed table.now positions.now × (length out.old ≡ rows table.now) }
     ensures { out.new ≡ column_by table.now 6 }
 {
-    for i in 0..out.len() {
-        out[i] = support_at(table, positions, i);
+    for (i, support) in out.iter_mut().enumerate() {
+        *support = support_at(table, positions, i);
     }
 }

@@ -8,7 +8,7 @@ ghost use Rattle.columns.specs.First.{all_below};
 ghost use Rattle.world.specs.Rows.{rows};
 ghost use Rattle.answers.specs.Answers.{trait_agrees, traits_agree, shape_agrees, find_agrees, property_agrees, properties_agree, offset_agrees};
 
-use columns::byte_at;
+use columns::{all_indices, byte_at};
 use places::Pos;
 use records::entry;
 
@@ -22,16 +22,10 @@ fn trait_agrees(profile: &[u8], table: &[u8], want: &[u8], i: usize) -> bool
 fn all_traits_agree(profile: &[u8], table: &[u8], want: &[u8]) -> bool
     ensures { result ≡ all_below (trait_agrees profile.now table.now want.now) (rows table.now) }
 {
-    let n = world::row::rows(table);
-    let mut i = 0;
-    while i < n {
-        if trait_agrees(profile, table, want, i) {
-            i += 1;
-        } else {
-            return false;
-        }
-    }
-    true
+    all_indices(
+        world::row::rows(table),
+        |i| trait_agrees(profile, table, want, i),
+    )
 }
 
 // The traits of every row, two bytes each.
@@ -44,7 +38,7 @@ pub fn traits_agree(profile: &[u8], table: &[u8], want: &[u8]) -> bool
 pub fn shape_agrees(name: &[u8], slab_type: &[u8], half: &[u8], shape: u8) -> bool
     ensures { result ≡ shape_agrees name.now slab_type.now half.now shape }
 {
-    probe::probe_shape_of_name(name, slab_type, half) == (shape as u32)
+    probe::probe_shape_of_name(name, slab_type, half) == u32::from(shape)
 }
 
 // The row at a position, and the kind there.
@@ -52,7 +46,7 @@ pub fn find_agrees(table: &[u8], q: Pos, row: u64, kind: u8) -> bool
     ensures { result ≡ find_agrees table.now q row kind }
 {
     (probe::probe_find(table, q.x, q.y, q.z) == row)
-        & (probe::probe_kind_at(table, q.x, q.y, q.z) == (kind as u32))
+        & (probe::probe_kind_at(table, q.x, q.y, q.z) == u32::from(kind))
 }
 
 // Whether a property has the number that stands at its kind.
@@ -60,22 +54,14 @@ fn property_agrees(profile: &[u8], want: &[u8], kind: usize) -> bool
     requires { kind < 14 }
     ensures { result ≡ property_agrees profile.now want.now kind }
 {
-    probe::probe_properties(profile, kind as u32) == (byte_at(want, kind) as u32)
+    probe::probe_properties(profile, kind as u32) == u32::from(byte_at(want, kind))
 }
 
 // The properties of every kind, a byte each.
 pub fn properties_agree(profile: &[u8], want: &[u8]) -> bool
     ensures { result ≡ properties_agree profile.now want.now }
 {
-    let mut kind = 0;
-    while kind < 14 {
-        if property_agrees(profile, want, kind) {
-            kind += 1;
-        } else {
-            return false;
-        }
-    }
-    true
+    all_indices(14, |kind| property_agrees(profile, want, kind))
 }
 
 pub fn offset_agrees(q: Pos, d: Pos, want: Pos) -> bool

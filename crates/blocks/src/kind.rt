@@ -1,4 +1,5 @@
-// The numbers of the kinds, as byte 12 of a row has them, and what is asked of a kind.
+// The numbers of the kinds, as byte 12 of a row has them, and what is asked of a kind. No enum: in a table that is not accepted the byte may be any,
+// and every definition is of the byte.
 ghost use Rattle.std.specs.Prelude.{◌≡◌};
 ghost use Rattle.blocks.specs.Kind.{is_switch, is_source, is_diode};
 

@@ -1,18 +1,16 @@
 -- Test 11: "Coordinate 1,000,000 passes, 1,000,001 is 4. 1,024 rows pass, 1,025 is 3".
 -- Assumes nothing.
-use Rattle.std.specs.Prelude.{ℕ, replicate}
+use Rattle.std.specs.Prelude.{Ok, Err, ℕ, replicate}
 use Rattle.columns.specs.Column.{Bytes}
 use Rattle.blocks.specs.Kind.{Solid}
 use Rattle.blocks.specs.Profile.{bench_profile}
-use Rattle.refusals.specs.declared.Checked.{Checked}
-use Rattle.refusals.specs.declared.Checked.TheVariants.{Accepted, Refused}
-use Rattle.refusals.specs.Check.{check_input}
+use Rattle.refusals.specs.Check.{Checked, check_input}
 use Rattle.book.specs.Tables.{put_block, put_line}
 
 -- the number of the refusal, 0 where there is none
 abbrev pub refusal_number : Checked → ℕ
-refusal_number Accepted = 0
-refusal_number (Refused n i) = n
+refusal_number (Ok _) = 0
+refusal_number (Err fault) = fault.number
 
 -- what the bench profile and a table answer
 abbrev pub answer_to : Bytes → ℕ

@@ -24,9 +24,7 @@ pub fn put_block(t: &mut [u8], row: usize, x: u32, y: u32, kind: u8)
 pub fn put_line(t: &mut [u8], rows: u32)
     ensures { t.new ≡ put_line t.old rows }
 {
-    let mut i = 0;
-    while i < rows {
+    for i in 0..rows {
         put_block(t, i as usize, i, 0, kind::SOLID);
-        i += 1;
     }
 }

@@ -12,8 +12,8 @@ fn refusal_number(checked: Checked) -> u8
     ensures { result ≡ refusal_number checked }
 {
     match checked {
-        Checked::Accepted => 0,
-        Checked::Refused { number, row: _ } => number,
+        Ok(()) => 0,
+        Err(refused) => refused.number,
     }
 }
 
@@ -21,7 +21,7 @@ fn refusal_number(checked: Checked) -> u8
 fn answer_to(t: &[u8]) -> u64
     ensures { result ≡ answer_to t.now }
 {
-    refusal_number(refusals::check_input(&BENCH_PROFILE, t)) as u64
+    u64::from(refusal_number(refusals::check_input(&BENCH_PROFILE, t)))
 }
 
 // One Solid block at (x, 0, 0).

@@ -1,11 +1,12 @@
 -- The buffers that are lent to a call: the front of a blank array, and how much of it a well-formed record asks for.
 -- Assumes nothing.
-use mathlib.Core.Path.{◌≡◌, sym, ap, ◌∙◌}
+use mathlib.Core.Path.{◌≡◌, ap, ◌∙◌}
 use mathlib.Core.Bool.{true, ◌&&◌}
 use Prim.Native.Nat.{ℕ, ◌≤◌}
 use native.Mathlib.Omega.{arith}
 use lib.ListN.{length, take, length-replicate}
-use lib.Seq.{length-take-le}
+use mathlib.Core.List.{◌++◌}
+use lib.Seq.{length-take-le, take_at}
 use lib.Dec.{leb}
 use borrow.Author.Tests.{leb-true}
 use Rattle.columns.specs.Column.{Bytes}
@@ -13,16 +14,18 @@ use Rattle.columns.proofs.Truth.{and_true}
 use Rattle.world.specs.Rows.{rows}
 use Rattle.records.specs.Record.{slice_of, number, has_parts, most_rows, most_bytes, is_small, well_formed}
 use Rattle.records.proofs.Blank.{front_blank}
-use Rattle.calls.specs.Calls.{blank, blanks, most_ticks, well_formed_ticks}
+use Rattle.calls.specs.Calls.{blanks, most_ticks, well_formed_ticks}
 
 -- ---- blank arrays
 
--- as long as it was taken
-pub lent_length : (n m : ℕ) → n ≤ m → n ≡ length (take n (blanks m))
-lent_length n m h = sym (length-take-le n (blanks m) (rw length-replicate h))
+module _ {n m : ℕ} (l : n ≤ m) {array : Bytes} (blank : array ≡ blanks m) where
+  -- the front of a blank array is blank
+  pub lent_blank : {k : ℕ} → n ≡ k → take n array ≡ blanks k
+  lent_blank is = rw blank (front_blank n m _ l ∙ ap blanks is)
 
-pub lent_blank : {n k : ℕ} (m : ℕ) → n ≤ m → n ≡ k → take n (blanks m) ≡ blanks k
-lent_blank {n} m h is = front_blank n m blank h ∙ ap blanks is
+  -- and what a call leaves in it stands at the array's front
+  pub given_back : (last rest : Bytes) → length last ≡ length (take n array) → take n (last ++ rest) ≡ last
+  given_back last rest kept = take_at last rest n (kept ∙ length-take-le n array (rw (blank, length-replicate) l))
 
 -- ---- well-formed records
 

@@ -5,8 +5,7 @@ use Rattle.std.specs.Prelude.{Bool, ◌&&◌, ℕ, ◌*◌, length, replicate, e
 use Rattle.columns.specs.Column.{Bytes, Column, same}
 use Rattle.network.specs.Network.{State}
 use Rattle.world.specs.Rows.{rows}
-use Rattle.refusals.specs.declared.Checked.{Checked}
-use Rattle.refusals.specs.Check.{answer_of, written}
+use Rattle.refusals.specs.Check.{Checked, answer_of, written}
 use Rattle.electrical.specs.Answer.{rounds_of, settled, check_settle}
 use Rattle.updates.specs.State.{devices_of, fresh_devices, fresh_state}
 use Rattle.updates.specs.Tick.{ticks}

@@ -13,8 +13,7 @@ use Rattle.blocks.specs.Kind.{Solid, RedstoneWire, RedstoneTorch, Repeater, Leve
 use Rattle.blocks.specs.Profile.{bench_profile}
 use Rattle.blocks.proofs.Bulbs.{with_bulb}
 use Rattle.places.specs.Places.{East, cell}
-use Rattle.refusals.specs.declared.Checked.TheVariants.{Refused}
-use Rattle.refusals.specs.Check.{answer_of, check_input}
+use Rattle.refusals.specs.Check.{refused as refusal, answer_of, check_input}
 use Rattle.refusals.proofs.Bulbs.{bulb_refused}
 use Rattle.states.specs.Row.{lit_of, had_power_of}
 use Rattle.updates.specs.State.{sixteen, check_state, fresh_state}
@@ -192,6 +191,6 @@ unfolding passes cases
 claim = tt
 
 -- `bulb_refused`, of a table that meets every hypothesis
-refused : check_input bench_profile bulb ≡ Refused 4 0
+refused : check_input bench_profile bulb ≡ refusal 4 0
 unfolding computing bulb
 refused = bulb_refused bench_profile bulb 0 refl refl refl (omega arith) (omega arith) refl (λ j l. absurd (omega arith))

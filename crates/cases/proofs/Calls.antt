@@ -12,8 +12,7 @@ use Rattle.network.specs.Network.{Breaks}
 use Rattle.blocks.specs.Kind.{Solid, RedstoneWire, Comparator}
 use Rattle.blocks.specs.Profile.{bench_profile}
 use Rattle.places.specs.Places.{East, West, cell}
-use Rattle.refusals.specs.declared.Checked.TheVariants.{Refused}
-use Rattle.refusals.specs.Check.{check_input}
+use Rattle.refusals.specs.Check.{refused, check_input}
 use Rattle.refusals.specs.Answers.{decode}
 use Rattle.refusals.proofs.Tells.{told_refused}
 use Rattle.supports.specs.Supports.{support_issues, Listed}
@@ -142,11 +141,11 @@ misplaced =
       whole = record { answer = refl; columns = record { signals = refl; weaks = refl; strongs = refl } };
     }
 
-misplaced_decoded : decode 327681 ≡ Refused 5 1
+misplaced_decoded : decode 327681 ≡ refused 5 1
 unfolding decode
 misplaced_decoded = refl
 
-misplaced_told : check_settle bench_profile exchanged (0 ∷ 0 ∷ []) 128 2 2 2 ≡ Refused 5 1
+misplaced_told : check_settle bench_profile exchanged (0 ∷ 0 ∷ []) 128 2 2 2 ≡ refused 5 1
 unfolding misplaced
 misplaced_told = told_refused (settle_tells misplaced.whole) (omega arith)
 
@@ -179,7 +178,7 @@ ticks_fed : Ticks bench_profile fed idle idle 4294967295 1 old old old old old o
 unfolding computing fed old idle
 ticks_fed = record { answer = refl; state = refl; columns = record { signals = refl; weaks = refl; strongs = refl } }
 
-tick_refused : check_tick bench_profile fed idle 4294967295 1 4 4 4 ≡ Refused 9 0
+tick_refused : check_tick bench_profile fed idle 4294967295 1 4 4 4 ≡ refused 9 0
 unfolding old
 tick_refused = told_refused (ticks_tell ticks_fed) (omega arith)
 
@@ -208,7 +207,7 @@ redraws_exchanged : Redraws bench_profile exchanged exchanged 327681
 unfolding computing exchanged
 redraws_exchanged = record { answer = refl; table = refl }
 
-redraw_refused : check_input bench_profile exchanged ≡ Refused 5 1
+redraw_refused : check_input bench_profile exchanged ≡ refused 5 1
 redraw_refused = told_refused (redraw_tells redraws_exchanged) (omega arith)
 
 -- the table merged with itself, to an output of no byte: number 7
@@ -216,7 +215,7 @@ merges_fed : Merges fed fed (cell (pos 0) (pos 0) (pos 0)) [] [] 458752
 unfolding computing fed
 merges_fed = record { answer = refl; bytes = refl }
 
-merge_refused : check_merge fed fed (cell (pos 0) (pos 0) (pos 0)) 0 ≡ Refused 7 0
+merge_refused : check_merge fed fed (cell (pos 0) (pos 0) (pos 0)) 0 ≡ refused 7 0
 merge_refused = told_refused (merge_tells fed fed (cell (pos 0) (pos 0) (pos 0)) [] merges_fed) (omega arith)
 
 -- the table cleared, to an output that has no room: number 7
@@ -224,5 +223,5 @@ clears_fed : Clears bench_profile fed [] [] [] [] 458752
 unfolding computing fed
 clears_fed = record { answer = refl; bytes = refl; entries = refl }
 
-clear_refused : check_clear bench_profile fed 0 0 ≡ Refused 7 0
+clear_refused : check_clear bench_profile fed 0 0 ≡ refused 7 0
 clear_refused = told_refused (clear_tells bench_profile fed [] [] clears_fed) (omega arith)

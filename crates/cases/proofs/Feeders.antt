@@ -14,8 +14,7 @@ use Rattle.blocks.proofs.Bulbs.{with_bulb}
 use Rattle.world.specs.Rows.{rows}
 use Rattle.traits.specs.Shapes.{Plain, BottomSlab, TopSlab, DoubleSlab}
 use Rattle.traits.specs.Traits.{ArmNone, ArmUp}
-use Rattle.refusals.specs.declared.Checked.TheVariants.{Refused}
-use Rattle.refusals.specs.Check.{answer_of, written}
+use Rattle.refusals.specs.Check.{refused as refusal, answer_of, written}
 use Rattle.refusals.proofs.Tells.{told_refused}
 use Rattle.feeding.specs.Feeders.{feeder_entries, feeder_list}
 use Rattle.feeding.specs.Replaced.{replaced, updated_list}
@@ -316,12 +315,12 @@ no_room : Feeds bench_profile floor [] [] 458752
 unfolding computing floor
 no_room = record { answer = refl; entries = refl }
 
-building_refused : check_feeders bench_profile floor 0 ≡ Refused 7 0
+building_refused : check_feeders bench_profile floor 0 ≡ refusal 7 0
 building_refused = told_refused (feeders_tells bench_profile floor [] no_room) (omega arith)
 
 no_room_to_replace : Replaces bench_profile floor floor 1 solid [] [] 458752
 unfolding computing floor solid
 no_room_to_replace = record { answer = refl; bytes = refl; entries = refl }
 
-replacing_refused : check_replace bench_profile floor 1 solid 0 ≡ Refused 7 0
+replacing_refused : check_replace bench_profile floor 1 solid 0 ≡ refusal 7 0
 replacing_refused = told_refused (replace_tells bench_profile floor 1 solid [] no_room_to_replace (omega arith)) (omega arith)

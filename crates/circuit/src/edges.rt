@@ -1,33 +1,28 @@
 // Whether a row has an edge to another.
 ghost use Rattle.std.specs.Prelude.{◌≡◌, eqb};
-ghost use Rattle.circuit.specs.Circuit.{Shaped, sink_of, ways, some_below, edge_in};
+ghost use Rattle.circuit.specs.Circuit.{sink_of, ways, some_below, edge_in};
 
-use crate::Edge;
-use crate::sinks::{class_at, sends_in, sink_of, ways};
+use crate::{Edge, Network};
 
-// Whether some way leads from row j to row i.
-fn leads_to(edge: Edge, near: &[u16], class: &[u32], j: usize, i: usize) -> bool
-    requires { Shaped near.now class.now }
-    ensures { result ≡ some_below (λ k. eqb (sink_of near.now class.now edge j k) i) (ways edge) }
-{
-    for k in 0..ways(edge) {
-        if sink_of(edge, near, class, j, k) == i {
-            return true;
+impl Network<'_> {
+    #[tactic(auto, using(crate::proofs::Ways::holds_some), unfolding(crate::specs::Circuit::some_below))]
+    // Whether some way leads from row j to row i.
+    fn leads_to(self, edge: Edge, j: usize, i: usize) -> bool
+        ensures { result ≡ some_below (λ k. eqb (sink_of self.entry.near.now self.entry.class.now edge j k) i) (ways edge) }
+    {
+        for k in 0..edge.ways() {
+            if self.sink_of(edge, j, k) == i {
+                return true;
+            }
         }
+        false
     }
-    false
-}
 
-// Whether row j has the edge to row i. The ways of a row that can send nothing are not walked.
-pub fn has_edge(edge: Edge, near: &[u16], class: &[u32], j: usize, i: usize) -> bool
-    requires { Shaped near.now class.now }
-    ensures { result ≡ edge_in near.now class.now edge j i }
-{
-    if class.len() <= i {
-        return false;
+    // Whether row j has the edge to row i. The ways of a row that can send nothing are not walked.
+    #[tactic(auto, using(crate::proofs::Ends::none_sent), unfolding(crate::specs::Circuit::edge_in))]
+    pub fn has_edge(self, edge: Edge, j: usize, i: usize) -> bool
+        ensures { result ≡ edge_in self.entry.near.now self.entry.class.now edge j i }
+    {
+        i < self.class.len() && edge.sends_in(self.class_at(j)) && self.leads_to(edge, j, i)
     }
-    if sends_in(edge, class_at(class, j)) {
-        return leads_to(edge, near, class, j, i);
-    }
-    false
 }

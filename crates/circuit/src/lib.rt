@@ -1,7 +1,9 @@
 // A network in two columns, and the rows that its edges lead to.
 #![tactic(auto)]
 
-pub mod edges;
+ghost use Rattle.circuit.specs.Circuit.{Shaped};
+
+mod edges;
 pub mod sinks;
 
 // The edges of a network.
@@ -13,4 +15,12 @@ pub enum Edge {
     Transmits,
     EmittedToDust,
     StrongToDust,
+}
+
+// A network in two columns: the rows by each row, place by place, and the class of each row.
+#[derive(Clone, Copy)]
+pub struct Network<'a> {
+    pub near: &'a [u16],
+    pub class: &'a [u32],
+    ghost shaped: { Shaped near.now class.now },
 }

@@ -10,8 +10,7 @@ use lib.Seq.{take_at, drop_at}
 use lib.Dec.{eqb}
 use Rattle.columns.specs.Column.{Bytes, Column, at_front}
 use Rattle.world.specs.Rows.{rows}
-use Rattle.refusals.specs.declared.Checked.TheVariants.{Accepted}
-use Rattle.refusals.specs.Check.{IsAccepted}
+use Rattle.refusals.specs.Check.{accepted, IsAccepted}
 use Rattle.refusals.specs.Answers.{Gives, Tells}
 use Rattle.refusals.proofs.Accepted.{accepted_input}
 use Rattle.refusals.proofs.Gives.{also_gives, wider_gives, input_gives}
@@ -30,7 +29,7 @@ clear_gives p t bytes entries = also_gives 7 refl (eqb bytes (length t) && eqb e
 
 module _ (p t out : Bytes) (column : Column) {out' : Bytes} {column' : Column} {r : ℕ} (c : Clears p t out out' column column' r) where
   -- an accepted call has an accepted table
-  input : check_clear p t (length out) (length column) ≡ Accepted → IsAccepted p t
+  input : check_clear p t (length out) (length column) ≡ accepted → IsAccepted p t
   input e = (given p t (length out) (length column) e).input
 
   pub clear_tells : Tells of_clear (check_clear p t (length out) (length column)) r
@@ -41,18 +40,18 @@ module _ (p t out : Bytes) (column : Column) {out' : Bytes} {column' : Column} {
       (λ e is. (is ∙ sym (kept_count p t (input e)), omega (arith, few e, is), rw e at c.bytes, rw e at c.entries))
       (λ n i e. (rw e at c.bytes, rw e at c.entries))
     where
-      few : check_clear p t (length out) (length column) ≡ Accepted → length (kept_rows p t) ≤ 1024
+      few : check_clear p t (length out) (length column) ≡ accepted → length (kept_rows p t) ≤ 1024
       few e = omega (arith, kept_few p t, (accepted_input p t (input e)).1.few)
 
   module _ (l : r < 65536) where
-    accepted : IsAccepted p t
-    accepted = input (told_accepted clear_tells l)
+    table_accepted : IsAccepted p t
+    table_accepted = input (told_accepted clear_tells l)
 
     -- below 65,536 the output's front is the table of the kept rows, "leaving the rest of it untouched"
     pub clear_front : (take (r * 32) out' ≡ kept_table p t) × (drop (r * 32) out' ≡ drop (r * 32) out)
     clear_front =
         let (count, _, bytes, _) = clear_tells.done l in
-        let long : length (kept_table p t) ≡ r * 32 = (accepted_input p (kept_table p t) (kept_accepted p t accepted)).1.whole ∙ ap (λ n. n * 32) (sym count) in
+        let long : length (kept_table p t) ≡ r * 32 = (accepted_input p (kept_table p t) (kept_accepted p t table_accepted)).1.whole ∙ ap (λ n. n * 32) (sym count) in
         let rest = drop (length (kept_table p t)) out in (
           rw bytes (take_at (kept_table p t) rest (r * 32) long),
           rw bytes (drop_at (kept_table p t) rest (r * 32) long ∙ ap (λ n. drop n out) long),
@@ -60,8 +59,8 @@ module _ (p t out : Bytes) (column : Column) {out' : Bytes} {column' : Column} {
 
     -- which is itself accepted,
     pub clear_writes_accepted : IsAccepted p (take (r * 32) out')
-    clear_writes_accepted = rw clear_front.0 (kept_accepted p t accepted)
+    clear_writes_accepted = rw clear_front.0 (kept_accepted p t table_accepted)
 
     -- and of which the support list names none
     pub clear_writes_supported : support_issues p (take (r * 32) out') ≡ []
-    clear_writes_supported = rw clear_front.0 (kept_none p t accepted)
+    clear_writes_supported = rw clear_front.0 (kept_none p t table_accepted)

@@ -10,8 +10,7 @@ use borrow.Author.Tests.{eqb-true, eq-eqb, ne_eqb}
 use Rattle.columns.specs.Column.{Bytes}
 use Rattle.columns.proofs.Truth.{and_true, and_false_left, and_false_right}
 use Rattle.world.specs.Rows.{rows}
-use Rattle.refusals.specs.declared.Checked.TheVariants.{Accepted, Refused}
-use Rattle.refusals.specs.Check.{check_input, IsAccepted}
+use Rattle.refusals.specs.Check.{accepted, refused, check_input, IsAccepted}
 use Rattle.refusals.proofs.Passed.{passed_both, passed_unless}
 use Rattle.clear.specs.Clear.{check_clear}
 
@@ -22,7 +21,7 @@ module _ (p t : Bytes) (bytes entries : ℕ) where
     pub bytes_long : bytes ≡ length t
     pub entries_long : entries ≡ rows t
 
-  pub given : check_clear p t bytes entries ≡ Accepted → Given
+  pub given : check_clear p t bytes entries ≡ accepted → Given
   unfolding check_clear
   given h =
       let (input, rest) = passed_both (check_input p t) _ h in
@@ -31,12 +30,12 @@ module _ (p t : Bytes) (bytes entries : ℕ) where
       record { input = input; bytes_long = eqb-true bytes (length t) first; entries_long = eqb-true entries (rows t) second }
 
   -- What falls on the profile or the table falls on the call,
-  pub input_refused : {n i : ℕ} → check_input p t ≡ Refused n i → check_clear p t bytes entries ≡ Refused n i
+  pub input_refused : {n i : ℕ} → check_input p t ≡ refused n i → check_clear p t bytes entries ≡ refused n i
   unfolding check_clear
   input_refused h = rw h refl
 
   -- then "a wrong length is 7", of either buffer,
-  pub length_refused : IsAccepted p t → (¬ (bytes ≡ length t)) ⊎ (¬ (entries ≡ rows t)) → check_clear p t bytes entries ≡ Refused 7 0
+  pub length_refused : IsAccepted p t → (¬ (bytes ≡ length t)) ⊎ (¬ (entries ≡ rows t)) → check_clear p t bytes entries ≡ refused 7 0
   unfolding check_clear
   length_refused h wrong = ⊎_elim
       (λ n. rw (h, and_false_left (eqb bytes (length t)) (eqb entries (rows t)) (ne_eqb bytes (length t) n)) refl)
@@ -44,6 +43,6 @@ module _ (p t : Bytes) (bytes entries : ℕ) where
       wrong
 
   -- and nothing else is refused.
-  pub clear_accepted : Given → check_clear p t bytes entries ≡ Accepted
+  pub clear_accepted : Given → check_clear p t bytes entries ≡ accepted
   unfolding check_clear
   clear_accepted g = rw (g.input, eq-eqb bytes (length t) g.bytes_long, eq-eqb entries (rows t) g.entries_long) refl

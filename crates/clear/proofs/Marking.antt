@@ -4,7 +4,6 @@ use mathlib.Core.Path.{◌≡◌, refl, ap, ap₂, sym, ◌∙◌}
 use mathlib.Core.Logic.{by_cases}
 use mathlib.Core.Bool.{Bool, true, false, cond, not, ◌&&◌, and-true, and-false, or-true}
 use Prim.Native.Nat.{ℕ, ◌+◌, ◌≤◌, ◌<◌}
-use native.Mathlib.Nat.{not-suc-le-zero}
 use native.Mathlib.Numerals.{add-one}
 use native.Mathlib.Decide.{dec_lt}
 use native.Mathlib.Omega.{arith}
@@ -25,9 +24,6 @@ pub record Marking (holders old : Column) (n i : ℕ) (now : Column) (any : Bool
   pub passed : (k : ℕ) → k < i → row now k ≡ cond (goes holders (unmarked old) old k) n (row old k)
   pub rest : (k : ℕ) → i ≤ k → row now k ≡ row old k
   pub found : any ≡ not (all_below (λ k. not (goes holders (unmarked old) old k)) i)
-
-pub marking_none : {holders old : Column} {n : ℕ} → Marking holders old n 0 old false
-marking_none = record { long = refl; passed = λ k l. absurd (not-suc-le-zero l); rest = λ k l. refl; found = refl }
 
 module _ {holders old : Column} {n i : ℕ} {now : Column} {any : Bool} (m : Marking holders old n i now any) where
   -- the rows that were left when the pass began are those without a mark then

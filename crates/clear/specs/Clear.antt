@@ -3,9 +3,8 @@
 use Rattle.std.specs.Prelude.{◌≡◌, ◌&&◌, List, [], ◌∷◌, ◌++◌, ℕ, length, eqb}
 use Rattle.columns.specs.Column.{Bytes, Column, at_front}
 use Rattle.world.specs.Rows.{rows}
-use Rattle.refusals.specs.declared.Checked.{Checked}
 use Rattle.refusals.specs.Answers.{of_input}
-use Rattle.refusals.specs.Check.{also, check_input, answer_of, written}
+use Rattle.refusals.specs.Check.{Checked, also, check_input, answer_of, written}
 use Rattle.clearing.specs.Kept.{kept_rows, kept_table, pass_column}
 
 -- 1 to 5 and 10; then 7, row 0, "a wrong length": of the output, in bytes, which is "another table of the same length", or of the column, in entries, of

@@ -1,5 +1,6 @@
 -- Laws of what is left after some passes: the rows at which a test of the input's own rows holds.
 -- Assumes nothing.
+use Rattle.std.proofs.Common.{Option, Some, None}
 use mathlib.Core.Path.{◌≡◌, refl, ap, sym, ◌∙◌}
 use mathlib.Core.Bool.{Bool, true, false, not, ◌&&◌, and_comm}
 use mathlib.Core.List.{List}
@@ -13,9 +14,8 @@ use Rattle.columns.specs.declared.Found.TheVariants.{At, Nothing}
 use Rattle.columns.specs.Column.{Bytes, row}
 use Rattle.columns.specs.First.{indices_from, on_found}
 use Rattle.columns.proofs.Truth.{and_true}
+use Rattle.places.specs.declared.Pos.{Pos}
 use Rattle.blocks.specs.Kind.{one_of}
-use Rattle.places.specs.declared.Place.{Place}
-use Rattle.places.specs.declared.Place.TheVariants.{There, Nowhere}
 use Rattle.world.specs.Rows.{rows, support_of}
 use Rattle.world.specs.Find.{find, find_at}
 use Rattle.world.proofs.Finding.{found_stands}
@@ -56,18 +56,18 @@ module _ (p t : Bytes) (a : Table t) (f : ℕ → Bool) where
     same_traits = let byte = table_byte t numbers these k l in rw (byte 12 (omega arith), byte 28 (omega arith)) refl
 
   -- the traits of what is found are those of the input's row
-  found_traits : (q : Place) → on_found (λ j. (traits p some j).supports) false (find_at some q) ≡ on_found (λ j. (traits p t (row numbers j)).supports) false (find_at some q)
-  found_traits Nowhere = refl
-  found_traits (There q) = go (find some q) refl
+  found_traits : (q : Option Pos) → on_found (λ j. (traits p some j).supports) false (find_at some q) ≡ on_found (λ j. (traits p t (row numbers j)).supports) false (find_at some q)
+  found_traits None = refl
+  found_traits (Some q) = go (find some q) refl
     where
       go : (x : Found) → find some q ≡ x → on_found (λ j. (traits p some j).supports) false x ≡ on_found (λ j. (traits p t (row numbers j)).supports) false x
       go Nothing e = refl
       go (At j) e = ap (λ r. r.supports) (same_traits j (rw (table_count t numbers these) at (found_stands some q j e).0))
 
   -- what is found among them is found in t
-  among : (q : Place) → on_found (λ j. (traits p t (row numbers j)).supports) false (find_at some q) ≡ on_found (λ j. f j && (traits p t j).supports) false (find_at t q)
-  among Nowhere = refl
-  among (There q) = find_among t a f (λ j. (traits p t j).supports) q
+  among : (q : Option Pos) → on_found (λ j. (traits p t (row numbers j)).supports) false (find_at some q) ≡ on_found (λ j. f j && (traits p t j).supports) false (find_at t q)
+  among None = refl
+  among (Some q) = find_among t a f (λ j. (traits p t j).supports) q
 
   swapped : (x : Found) → on_found (λ j. f j && (traits p t j).supports) false x ≡ on_found (λ j. (traits p t j).supports && f j) false x
   swapped Nothing = refl

@@ -1,5 +1,6 @@
 -- Laws of a row's support, and of the sets of rows in which every row that needs support has it: such a set is left by every pass.
 -- Assumes nothing.
+use Rattle.std.proofs.Common.{Option, Some, None}
 use mathlib.Core.Path.{◌≡◌, refl, ap, sym, ◌∙◌}
 use mathlib.Core.Bool.{Bool, true, false, not, ◌&&◌, true≢false, and-false}
 use mathlib.Core.List.{List, []}
@@ -13,8 +14,7 @@ use Rattle.columns.specs.Column.{Bytes, row}
 use Rattle.columns.specs.First.{found_if, indices_from, on_found}
 use Rattle.columns.proofs.Indices.{index_kept, kept_index, indices_none}
 use Rattle.columns.proofs.Truth.{and_true, not_false}
-use Rattle.places.specs.declared.Place.{Place}
-use Rattle.places.specs.declared.Place.TheVariants.{There, Nowhere}
+use Rattle.places.specs.declared.Pos.{Pos}
 use Rattle.world.specs.Rows.{rows, kind_of, support_of}
 use Rattle.world.specs.Find.{find, find_at}
 use Rattle.world.proofs.Finding.{found_stands}
@@ -42,17 +42,17 @@ module _ (p t : Bytes) (i : ℕ) where
       here k true s e = (cc, s)
       here k false s e = let z : ◌≡◌ {A = ℕ} 0 1 = cc in absurd (omega arith)
 
-      found : (q : _) (x : Found) → support_of t i ≡ There q → find t q ≡ x → on_found (λ j. found_if (traits p t j).supports j Nothing) Nothing x ≡ At j → HeldUpBy p t i j
+      found : (q : _) (x : Found) → support_of t i ≡ Some q → find t q ≡ x → on_found (λ j. found_if (traits p t j).supports j Nothing) Nothing x ≡ At j → HeldUpBy p t i j
       found q Nothing s f e = let z : ◌≡◌ {A = ℕ} 0 1 = cc in absurd (omega arith)
       found q (At k) s f e =
           let (same, supports) = here k (traits p t k).supports refl e in
           let (inside, stands) = found_stands t q k f in
-          let own : HeldUpBy p t i k = record { inside = inside; stands = s ∙ ap There (sym stands); supports = supports } in
+          let own : HeldUpBy p t i k = record { inside = inside; stands = s ∙ ap Some (sym stands); supports = supports } in
           rw same at own
 
-      at : (q : Place) → support_of t i ≡ q → on_found (λ j. found_if (traits p t j).supports j Nothing) Nothing (find_at t q) ≡ At j → HeldUpBy p t i j
-      at Nowhere s e = let z : ◌≡◌ {A = ℕ} 0 1 = cc in absurd (omega arith)
-      at (There q) s e = found q (find t q) s refl e
+      at : (q : Option Pos) → support_of t i ≡ q → on_found (λ j. found_if (traits p t j).supports j Nothing) Nothing (find_at t q) ≡ At j → HeldUpBy p t i j
+      at None s e = let z : ◌≡◌ {A = ℕ} 0 1 = cc in absurd (omega arith)
+      at (Some q) s e = found q (find t q) s refl e
 
   -- and a support of a row is found
   pub supports_row : Table t → (j : ℕ) → HeldUpBy p t i j → support_row p t i ≡ At j

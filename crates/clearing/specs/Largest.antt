@@ -1,9 +1,8 @@
 -- Sets of rows in which every row that needs support has it. That what is kept is the largest of them is `kept_largest` of proofs/Clearing.
 -- What stands in quotation marks is document 02's, Change 7.
 -- Assumes nothing.
-use Rattle.std.specs.Prelude.{◌≡◌, Bool, true, ℕ, ◌<◌}
+use Rattle.std.specs.Prelude.{◌≡◌, Bool, true, ℕ, ◌<◌, Some}
 use Rattle.columns.specs.Column.{Bytes}
-use Rattle.places.specs.declared.Place.TheVariants.{There}
 use Rattle.world.specs.Rows.{rows, pos_of, kind_of, support_of}
 use Rattle.traits.specs.Traits.{traits}
 use Rattle.supports.specs.Supports.{needs_support}
@@ -11,7 +10,7 @@ use Rattle.supports.specs.Supports.{needs_support}
 -- row i of t is held up by row j: that stands where row i has its support, and supports components
 pub record HeldUpBy (p t : Bytes) (i j : ℕ) : Type 0 where
   pub inside : j < rows t
-  pub stands : support_of t i ≡ There (pos_of t j)
+  pub stands : support_of t i ≡ Some (pos_of t j)
   pub supports : (traits p t j).supports ≡ true
 
 -- A set of rows of t is a test of their numbers. Row i has a support in the set.

@@ -1,15 +1,16 @@
 -- Laws of a column by its rule, and of the loop that fills one.
 -- Assumes nothing.
 use mathlib.Core.Path.{◌≡◌, refl, ap, ap₂, sym, ◌∙◌}
-use mathlib.Core.Bool.{Bool, true, false, ◌&&◌, false≢true}
+use mathlib.Core.Bool.{Bool, true, false, false≢true}
 use mathlib.Core.List.{List, [], ◌∷◌}
 use Prim.Native.Nat.{ℕ, zero, suc, ◌+◌, ◌≤◌, ◌<◌}
 use native.Mathlib.Nat.{zero-add, not-suc-le-zero, le_of_suc-le-suc}
-use native.Mathlib.Numerals.{add-one}
 use native.Mathlib.Omega.{arith}
 use lib.Dec.{eqb}
-use lib.ListN.{length, get_or, take, drop, set, replicate, length-set, length-replicate}
-use lib.Seq.{length-take-le, ext_get_or, get_or-set_same, get_or-set_other, drop-cons, drop-length}
+use lib.ListN.{length, take, set, replicate, length-set, length-replicate}
+use lib.Seq.{length-take-le, ext_get_or, get_or-set_same, get_or-set_other}
+use lib.Pointwise.{pointwise}
+use Rattle.std.proofs.lemmas.List.{get_or-replicate}
 use borrow.Author.Count.{below_more}
 use borrow.Author.Tests.{eqb-true, eq-eqb}
 use Rattle.columns.specs.Column.{Column, row, tabulate_from, tabulate, same}
@@ -65,6 +66,10 @@ filled_more {f} {n} {i} {s} {x} h l p =
 pub filled_all : {f : ℕ → ℕ} {n i : ℕ} {s : Column} → Filled f n i s → n ≤ i → s ≡ tabulate n f
 filled_all {f} {n} {i} {s} h p = is_tabulate s n f h.rows (λ k l. h.passed k (omega arith))
 
+-- one number in every row
+pub replicate_rule : (n v : ℕ) → replicate n v ≡ tabulate n (λ _. v)
+replicate_rule n v = is_tabulate (replicate n v) n (λ _. v) (length-replicate n v) (λ i l. get_or-replicate n i v 0 l)
+
 -- what `search` is handed at the needs of such a loop
 pub ruleset fills = (filled_none, filled_more, filled_all)
 
@@ -90,19 +95,13 @@ same_lengths x y n = go (same x y) refl
     go true e = absurd (n (ap length (same_true x y e)))
     go false e = e
 
--- ---- a loop that compares two lists: after i entries the rest is left
-
-module _ (x y : List ℕ) (i : ℕ) (h : i < length x) (g : i < length y) where
-  pub same_next : same (drop i x) (drop i y) ≡ (eqb (get_or x i 0) (get_or y i 0) && same (drop (i + 1) x) (drop (i + 1) y))
-  unfolding same
-  same_next = rw (drop-cons x i 0 h, drop-cons y i 0 g, add-one)
-
-pub same_over : (x y : List ℕ) (i : ℕ) → i ≡ length x → i ≡ length y → same (drop i x) (drop i y) ≡ true
+-- what `==` says of two slices
+pub pointwise_same : (x y : List ℕ) → pointwise eqb x y ≡ same x y
 unfolding same
-same_over x y i h g =
-    let p : drop i x ≡ [] = rw h (drop-length x) in
-    let q : drop i y ≡ [] = rw g (drop-length y) in
-    rw (p, q)
+pointwise_same [] [] = refl
+pointwise_same [] (y ∷ ys) = refl
+pointwise_same (x ∷ xs) [] = refl
+pointwise_same (x ∷ xs) (y ∷ ys) = rw (pointwise_same xs ys) refl
 
 -- ---- the front of an array of zeros
 

@@ -1,38 +1,32 @@
 // The sides of a device: where a repeater or comparator reads and writes, and the two positions across its facing.
 #![tactic(auto)]
 
-ghost use Rattle.std.specs.Prelude.{◌≡◌};
+ghost use Rattle.std.specs.Prelude.{◌≡◌, ℕ, Option, None};
+ghost use Rattle.places.specs.declared.Pos.{Pos};
 ghost use Rattle.columns.specs.First.{on_found};
 ghost use Rattle.connectivity.specs.Ports.{ahead, output_of, input_of, across, sides_of, of_kind, repeater_input_pos, repeater_output_pos, comparator_input_pos, comparator_output_pos, device_side_positions};
 
 use columns::Found;
-use places::{Facing, Place, Pos};
+use places::{Facing, Pos};
 use world::find::find;
 use world::row::{facing_of, kind_of, pos_of};
 
-// The two positions across a facing, or none: `Option<[Pos; 2]>`.
-#[derive(Drop)]
-pub enum Sides {
-    Both(Pos, Pos),
-    Neither,
-}
-
 // The place beside along a horizontal facing; none along any other.
-fn ahead(q: Pos, facing: Facing) -> Place
+fn ahead(q: Pos, facing: Facing) -> Option<Pos>
     ensures { result ≡ ahead q facing.code }
 {
     let code = facing.code;
     if code < Facing::NORTH {
-        return Place::Nowhere;
+        return None;
     }
     if Facing::WEST < code {
-        return Place::Nowhere;
+        return None;
     }
-    Place::There(q.beside(facing))
+    Some(q.beside(facing))
 }
 
 // The output of a row that is taken for a device, whatever its kind.
-pub fn output_of(table: &[u8], row: usize) -> Place
+pub fn output_of(table: &[u8], row: usize) -> Option<Pos>
     ensures { result ≡ output_of table.now row }
 {
     let facing = Facing {
@@ -41,7 +35,7 @@ pub fn output_of(table: &[u8], row: usize) -> Place
     ahead(pos_of(table, row), facing)
 }
 
-pub fn input_of(table: &[u8], row: usize) -> Place
+pub fn input_of(table: &[u8], row: usize) -> Option<Pos>
     ensures { result ≡ input_of table.now row }
 {
     let facing = Facing {
@@ -52,27 +46,27 @@ pub fn input_of(table: &[u8], row: usize) -> Place
 }
 
 // East then West of a block that faces North or South, North then South of one that faces East or West.
-fn across(q: Pos, facing: u8) -> Sides
+fn across(q: Pos, facing: u8) -> Option<(Pos, Pos)>
     ensures { result ≡ across q facing }
 {
     match facing {
-        Facing::NORTH | Facing::SOUTH => Sides::Both(
+        Facing::NORTH | Facing::SOUTH => Some((
             q.beside(Facing { code: Facing::EAST }),
             q.beside(Facing { code: Facing::WEST }),
-        ),
-        Facing::EAST | Facing::WEST => Sides::Both(
+        )),
+        Facing::EAST | Facing::WEST => Some((
             q.beside(Facing {
                 code: Facing::NORTH,
             }),
             q.beside(Facing {
                 code: Facing::SOUTH,
             }),
-        ),
-        _ => Sides::Neither,
+        )),
+        _ => None,
     }
 }
 
-pub fn sides_of(table: &[u8], row: usize) -> Sides
+pub fn sides_of(table: &[u8], row: usize) -> Option<(Pos, Pos)>
     ensures { result ≡ sides_of table.now row }
 {
     across(pos_of(table, row), facing_of(table, row))
@@ -91,55 +85,59 @@ fn of_kind(table: &[u8], pos: Pos, kind: u8) -> Found
     Found::Nothing
 }
 
-// The output of the row found, if there is one.
-fn output_at(table: &[u8], found: Found) -> Place
-    ensures { result ≡ on_found (output_of table.now) Place.Nowhere found }
+// The place by the row found, if there is one.
+fn at_found<F: Fn(usize) -> Option<Pos>>(found: Found, place: F) -> Option<Pos>
+    requires { (i : ℕ) → F.pre place i }
+    ensures { (f : ℕ → Option Pos) → ((i : ℕ) (q : Option Pos) → F.post place i q → q ≡ f i) → result ≡ on_found f None found }
 {
     match found {
-        Found::At(i) => output_of(table, i),
-        Found::Nothing => Place::Nowhere,
+        Found::At(i) => place(i),
+        Found::Nothing => None,
     }
 }
 
-fn input_at(table: &[u8], found: Found) -> Place
-    ensures { result ≡ on_found (input_of table.now) Place.Nowhere found }
-{
-    match found {
-        Found::At(i) => input_of(table, i),
-        Found::Nothing => Place::Nowhere,
-    }
-}
-
-pub fn repeater_input_pos(table: &[u8], pos: Pos) -> Place
+pub fn repeater_input_pos(table: &[u8], pos: Pos) -> Option<Pos>
     ensures { result ≡ repeater_input_pos table.now pos }
 {
-    input_at(table, of_kind(table, pos, blocks::kind::REPEATER))
+    at_found(
+        of_kind(table, pos, blocks::kind::REPEATER),
+        |i| input_of(table, i),
+    )
 }
 
-pub fn repeater_output_pos(table: &[u8], pos: Pos) -> Place
+pub fn repeater_output_pos(table: &[u8], pos: Pos) -> Option<Pos>
     ensures { result ≡ repeater_output_pos table.now pos }
 {
-    output_at(table, of_kind(table, pos, blocks::kind::REPEATER))
+    at_found(
+        of_kind(table, pos, blocks::kind::REPEATER),
+        |i| output_of(table, i),
+    )
 }
 
-pub fn comparator_input_pos(table: &[u8], pos: Pos) -> Place
+pub fn comparator_input_pos(table: &[u8], pos: Pos) -> Option<Pos>
     ensures { result ≡ comparator_input_pos table.now pos }
 {
-    input_at(table, of_kind(table, pos, blocks::kind::COMPARATOR))
+    at_found(
+        of_kind(table, pos, blocks::kind::COMPARATOR),
+        |i| input_of(table, i),
+    )
 }
 
-pub fn comparator_output_pos(table: &[u8], pos: Pos) -> Place
+pub fn comparator_output_pos(table: &[u8], pos: Pos) -> Option<Pos>
     ensures { result ≡ comparator_output_pos table.now pos }
 {
-    output_at(table, of_kind(table, pos, blocks::kind::COMPARATOR))
+    at_found(
+        of_kind(table, pos, blocks::kind::COMPARATOR),
+        |i| output_of(table, i),
+    )
 }
 
 // Of a block of any kind that has a horizontal facing.
-pub fn device_side_positions(table: &[u8], pos: Pos) -> Sides
+pub fn device_side_positions(table: &[u8], pos: Pos) -> Option<(Pos, Pos)>
     ensures { result ≡ device_side_positions table.now pos }
 {
     let Found::At(i) = find(table, pos) else {
-        return Sides::Neither;
+        return None;
     };
     sides_of(table, i)
 }

@@ -2,6 +2,7 @@
 -- table need be accepted; what is asked of states and columns is said at each law. The state is as it was. The rounds and columns of the switch are left
 -- open, but for `same_figures`. The laws over the definitions are in crates/redrawing/proofs/EitherOrder.antt.
 -- Assumes nothing.
+use Rattle.std.proofs.Common.{Ok, Err}
 use mathlib.Core.Path.{◌≡◌, refl, ap, sym, ◌∙◌}
 use Prim.Native.Nat.{ℕ, ◌/◌, ◌%◌, ◌≤◌, ◌<◌}
 use native.Mathlib.Omega.{arith}
@@ -9,9 +10,7 @@ use lib.ListN.{length}
 use Rattle.columns.specs.Column.{Bytes, Column}
 use Rattle.places.specs.declared.Pos.{Pos}
 use Rattle.world.specs.Rows.{rows}
-use Rattle.refusals.specs.declared.Checked.{Checked}
-use Rattle.refusals.specs.declared.Checked.TheVariants.{Accepted, Refused}
-use Rattle.refusals.specs.Check.{check_input, IsAccepted, answer_of, written}
+use Rattle.refusals.specs.Check.{Checked, accepted, refused, check_input, IsAccepted, answer_of, written}
 use Rattle.refusals.specs.Answers.{decode}
 use Rattle.refusals.proofs.Passed.{passed_both}
 use Rattle.refusals.proofs.Tells.{told_accepted, told_refused}
@@ -41,7 +40,7 @@ module _ {p t u : Bytes} {a : ℕ} (redraw : Redraws p t u a) where
   left_drawn : IsAccepted p t → u ≡ update_wire_shapes p t
   left_drawn e = redraw.table ∙ ap (λ c. written c t (update_wire_shapes p t)) e
 
-  left_kept : {n i : ℕ} → check_input p t ≡ Refused n i → u ≡ t
+  left_kept : {n i : ℕ} → check_input p t ≡ refused n i → u ≡ t
   left_kept e = redraw.table ∙ ap (λ c. written c t (update_wire_shapes p t)) e
 
   -- the same refusal, or none, falls on it
@@ -49,8 +48,8 @@ module _ {p t u : Bytes} {a : ℕ} (redraw : Redraws p t u a) where
   left_check = go (check_input p t) refl
     where
       go : (c : Checked) → check_input p t ≡ c → check_input p u ≡ check_input p t
-      go Accepted e = ap (check_input p) (left_drawn e) ∙ redrawn_accepted p t e ∙ sym e
-      go (Refused n i) e = ap (check_input p) (left_kept e)
+      go (Ok _) e = ap (check_input p) (left_drawn e) ∙ redrawn_accepted p t e ∙ sym e
+      go (Err fault) e = ap (check_input p) (left_kept e)
 
 -- "redrawing an accepted table twice gives the bytes of redrawing once": of any table, since a refused call leaves it as it was; and the second call
 -- answers what the first did
@@ -59,8 +58,8 @@ module _ {p t u v : Bytes} {a b : ℕ} (once : Redraws p t u a) (again : Redraws
   redraw_twice = go (check_input p t) refl
     where
       go : (c : Checked) → check_input p t ≡ c → v ≡ u
-      go Accepted e = left_drawn again (left_check once ∙ e) ∙ ap (update_wire_shapes p) (left_drawn once e) ∙ redrawn_twice p t ∙ sym (left_drawn once e)
-      go (Refused n i) e = left_kept again (left_check once ∙ e)
+      go (Ok _) e = left_drawn again (left_check once ∙ e) ∙ ap (update_wire_shapes p) (left_drawn once e) ∙ redrawn_twice p t ∙ sym (left_drawn once e)
+      go (Err fault) e = left_kept again (left_check once ∙ e)
 
   pub answers_twice : b ≡ a
   answers_twice = again.answer ∙ ap (λ c. answer_of c 0) (left_check once) ∙ sym once.answer
@@ -85,12 +84,12 @@ left_step : {p t u : Bytes} {a : ℕ} → Redraws p t u a → (st : Bytes) (sign
 left_step {p} {t} {u} redraw st signal weak strong = go (check_input p t) refl
   where
     go : (c : Checked) → check_input p t ≡ c → check_step p u st signal weak strong ≡ check_step p t st signal weak strong
-    go Accepted e = ap (λ x. check_step p x st signal weak strong) (left_drawn redraw e) ∙ drawn_step p t e st signal weak strong
-    go (Refused n i) e = ap (λ x. check_step p x st signal weak strong) (left_kept redraw e)
+    go (Ok _) e = ap (λ x. check_step p x st signal weak strong) (left_drawn redraw e) ∙ drawn_step p t e st signal weak strong
+    go (Err fault) e = ap (λ x. check_step p x st signal weak strong) (left_kept redraw e)
 
 -- ---- what a switch leaves
 
-step_accepted : (p t st : Bytes) (signal weak strong : ℕ) → check_step p t st signal weak strong ≡ Accepted → IsAccepted p t
+step_accepted : (p t st : Bytes) (signal weak strong : ℕ) → check_step p t st signal weak strong ≡ accepted → IsAccepted p t
 unfolding check_step
 step_accepted p t st signal weak strong e = (passed_both (check_input p t) _ e).0
 
@@ -102,16 +101,16 @@ module _ {p t st u : Bytes} {q : Pos} {power signal weak strong r : ℕ} (switch
   told : decode r ≡ check_step p t st signal weak strong
   told = (switch_tells switch.call).check ∙ lengths
 
-  told_done : r < 65536 → check_step p t st signal weak strong ≡ Accepted
+  told_done : r < 65536 → check_step p t st signal weak strong ≡ accepted
   told_done l = sym lengths ∙ told_accepted (switch_tells switch.call) l
 
-  told_kept : 65536 ≤ r → check_step p t st signal weak strong ≡ Refused (r / 65536) (r % 65536)
+  told_kept : 65536 ≤ r → check_step p t st signal weak strong ≡ refused (r / 65536) (r % 65536)
   told_kept l = sym lengths ∙ told_refused (switch_tells switch.call) l
 
-  switch_turned : check_step p t st signal weak strong ≡ Accepted → u ≡ switched t q power
+  switch_turned : check_step p t st signal weak strong ≡ accepted → u ≡ switched t q power
   switch_turned e = switch.call.table ∙ ap (λ c. written c t (switched t q power)) (lengths ∙ e)
 
-  switch_kept : {n i : ℕ} → check_step p t st signal weak strong ≡ Refused n i → u ≡ t
+  switch_kept : {n i : ℕ} → check_step p t st signal weak strong ≡ refused n i → u ≡ t
   switch_kept e = switch.call.table ∙ ap (λ c. written c t (switched t q power)) (lengths ∙ e)
 
   -- the same refusal, or none, falls on what it leaves
@@ -119,20 +118,20 @@ module _ {p t st u : Bytes} {q : Pos} {power signal weak strong r : ℕ} (switch
   turned_check = go (check_step p t st signal weak strong) refl
     where
       go : (c : Checked) → check_step p t st signal weak strong ≡ c → check_input p u ≡ check_input p t
-      go Accepted e =
+      go (Ok _) e =
           let ok : IsAccepted p t = step_accepted p t st signal weak strong e in
           ap (check_input p) (switch_turned e) ∙ switched_accepted t q power p ok ∙ sym ok
-      go (Refused n i) e = ap (check_input p) (switch_kept e)
+      go (Err fault) e = ap (check_input p) (switch_kept e)
 
 -- ---- a redraw and then a switch
 
 module _ {p t st u : Bytes} {q : Pos} {power signal weak strong a r : ℕ} (one : RedrawThenSwitch p t st u q power signal weak strong a r) where
-  redrawn_turned : check_step p t st signal weak strong ≡ Accepted → u ≡ switched (update_wire_shapes p t) q power
+  redrawn_turned : check_step p t st signal weak strong ≡ accepted → u ≡ switched (update_wire_shapes p t) q power
   redrawn_turned e =
       switch_turned one.switches (left_step one.redraws st signal weak strong ∙ e)
       ∙ ap (λ x. switched x q power) (left_drawn one.redraws (step_accepted p t st signal weak strong e))
 
-  redrawn_kept : {n i : ℕ} → check_step p t st signal weak strong ≡ Refused n i → u ≡ redraw_leaves p t
+  redrawn_kept : {n i : ℕ} → check_step p t st signal weak strong ≡ refused n i → u ≡ redraw_leaves p t
   redrawn_kept e = switch_kept one.switches (left_step one.redraws st signal weak strong ∙ e) ∙ one.redraws.table
 
   -- what they leave: the redrawn table, switched; where the switch alone is refused the redrawn table; where both are, the table
@@ -140,28 +139,28 @@ module _ {p t st u : Bytes} {q : Pos} {power signal weak strong a r : ℕ} (one 
   table_left = go (check_step p t st signal weak strong) refl
     where
       go : (c : Checked) → check_step p t st signal weak strong ≡ c → u ≡ written c (redraw_leaves p t) (switched (update_wire_shapes p t) q power)
-      go Accepted e = redrawn_turned e
-      go (Refused n i) e = redrawn_kept e
+      go (Ok _) e = redrawn_turned e
+      go (Err fault) e = redrawn_kept e
 
 -- ---- a switch and then a redraw
 
 module _ {p t st u : Bytes} {q : Pos} {power signal weak strong a r : ℕ} (other : SwitchThenRedraw p t st u q power signal weak strong a r) where
-  turned_redrawn : check_step p t st signal weak strong ≡ Accepted → u ≡ update_wire_shapes p (switched t q power)
+  turned_redrawn : check_step p t st signal weak strong ≡ accepted → u ≡ update_wire_shapes p (switched t q power)
   turned_redrawn e =
       left_drawn other.redraws (turned_check other.switches ∙ step_accepted p t st signal weak strong e)
       ∙ ap (update_wire_shapes p) (switch_turned other.switches e)
 
-  kept_redrawn : {n i : ℕ} → check_step p t st signal weak strong ≡ Refused n i → u ≡ redraw_leaves p t
+  kept_redrawn : {n i : ℕ} → check_step p t st signal weak strong ≡ refused n i → u ≡ redraw_leaves p t
   kept_redrawn e = other.redraws.table ∙ ap (redraw_leaves p) (switch_kept other.switches e)
 
 -- ---- in either order, with any two states and any columns
 
 module _ {p t st st' u v : Bytes} {q : Pos} {power signal weak strong signal' weak' strong' a b r s : ℕ}
     (one : RedrawThenSwitch p t st u q power signal weak strong a r) (other : SwitchThenRedraw p t st' v q power signal' weak' strong' b s) where
-  done : check_step p t st signal weak strong ≡ Accepted → check_step p t st' signal' weak' strong' ≡ Accepted → u ≡ v
+  done : check_step p t st signal weak strong ≡ accepted → check_step p t st' signal' weak' strong' ≡ accepted → u ≡ v
   done e f = redrawn_turned one e ∙ sym (either_order p t q power) ∙ sym (turned_redrawn other f)
 
-  kept : {n i m j : ℕ} → check_step p t st signal weak strong ≡ Refused n i → check_step p t st' signal' weak' strong' ≡ Refused m j → u ≡ v
+  kept : {n i m j : ℕ} → check_step p t st signal weak strong ≡ refused n i → check_step p t st' signal' weak' strong' ≡ refused m j → u ≡ v
   kept e f = redrawn_kept one e ∙ sym (kept_redrawn other f)
 
   same_step : check_step p one.between st signal weak strong ≡ check_step p t st signal weak strong
@@ -189,8 +188,8 @@ module _ {p t st u v : Bytes} {q : Pos} {power signal weak strong a b r s : ℕ}
   same_table = go (check_step p t st signal weak strong) refl
     where
       go : (c : Checked) → check_step p t st signal weak strong ≡ c → u ≡ v
-      go Accepted e = done one other e e
-      go (Refused n i) e = kept one other e e
+      go (Ok _) e = done one other e e
+      go (Err fault) e = kept one other e e
 
   -- and the answers of the switch tell the same refusal, by number and row, or none; the rounds may differ
   pub same_refusal : decode r ≡ decode s

@@ -12,9 +12,7 @@ use Rattle.columns.specs.Column.{Bytes, Column, row}
 use Rattle.network.specs.Demand as Network
 use Rattle.blocks.specs.Kind.{one_of}
 use Rattle.world.specs.Rows.{rows}
-use Rattle.refusals.specs.declared.Checked.{Checked}
-use Rattle.refusals.specs.declared.Checked.TheVariants.{Accepted}
-use Rattle.refusals.specs.Check.{check_input, answer_of}
+use Rattle.refusals.specs.Check.{Checked, accepted, check_input, answer_of}
 use Rattle.refusals.specs.Answers.{Gives, Tells}
 use Rattle.refusals.proofs.Passed.{passed_both, passed_unless}
 use Rattle.refusals.proofs.Accepted.{accepted_input}
@@ -27,7 +25,7 @@ use Rattle.electrical.specs.Answer.{rounds_of, settled, good_columns, check_call
 -- ---- where settle is not refused
 
 module _ (p t : Bytes) (d : Column) (limit signal weak strong : ℕ) where
-  pub accepted_passed : check_settle p t d limit signal weak strong ≡ Accepted → Passed p t d limit signal weak strong
+  pub accepted_passed : check_settle p t d limit signal weak strong ≡ accepted → Passed p t d limit signal weak strong
   unfolding check_settle check_call
   accepted_passed h =
       let (call, last) = passed_both (check_call p t d signal weak strong) _ h in
@@ -40,7 +38,7 @@ module _ (p t : Bytes) (d : Column) (limit signal weak strong : ℕ) where
         enough = leb-true _ _ (passed_unless 8 (leb (rounds_of p t d) limit) _ last).0;
       }
 
-  pub passed_accepted : Passed p t d limit signal weak strong → check_settle p t d limit signal weak strong ≡ Accepted
+  pub passed_accepted : Passed p t d limit signal weak strong → check_settle p t d limit signal weak strong ≡ accepted
   unfolding check_settle check_call
   passed_accepted h = rw (h.accepted, h.valid, h.columns, le-leb (rounds_of p t d) limit h.enough)
 

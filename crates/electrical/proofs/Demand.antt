@@ -21,8 +21,7 @@ use Rattle.network.specs.Demand as Network
 use Rattle.blocks.specs.Kind.{is_dust}
 use Rattle.world.specs.Rows.{rows, kind_of}
 use Rattle.traits.specs.Traits.{traits, conducts}
-use Rattle.refusals.specs.declared.Checked.TheVariants.{Refused}
-use Rattle.refusals.specs.Check.{IsAccepted}
+use Rattle.refusals.specs.Check.{refused, IsAccepted}
 use Rattle.refusals.specs.Answers.{Gives, Tells}
 use Rattle.refusals.proofs.Passed.{or_accepted}
 use Rattle.refusals.proofs.Gives.{not_given}
@@ -148,7 +147,7 @@ module _ (p t : Bytes) (d : Column) (limit : ℕ) (h : 17 ≤ limit) (signal wea
   gives_from_17 = rw never_unsettled (call_gives p t d signal weak strong)
 
   -- whatever it is handed, number 8 does not fall on it
-  pub never_8 : (i : ℕ) → ¬ (check_settle p t d limit signal weak strong ≡ Refused 8 i)
+  pub never_8 : (i : ℕ) → ¬ (check_settle p t d limit signal weak strong ≡ refused 8 i)
   never_8 i = not_given gives_from_17 8 i refl
 
 module _ {p t : Bytes} {d : Column} {limit : ℕ} {signal weak strong signal' weak' strong' : Column} {r : ℕ}

@@ -15,7 +15,7 @@ use Rattle.columns.specs.Signal.{max_signal}
 use Rattle.columns.proofs.Columns.{length_tabulate, row_tabulate}
 use Rattle.network.specs.Compare.{Larger, AtEveryRow₃}
 use Rattle.world.specs.Rows.{rows, kind_of}
-use Rattle.refusals.specs.declared.Checked.TheVariants.{Accepted}
+use Rattle.refusals.specs.Check.{accepted}
 use Rattle.refusals.proofs.Passed.{passed_values, values_pass}
 use Rattle.emitted.specs.Emitted.{good_device, is_bad_device, check_devices}
 use Rattle.electrical.specs.Join.{larger_of}
@@ -25,13 +25,13 @@ pub record Devices (t : Bytes) (d : Column) : Type 0 where
   pub good : (i : ℕ) → i < rows t → good_device (kind_of t i) (row d i) ≡ true
   pub low : (i : ℕ) → i < rows t → row d i ≤ max_signal
 
-pub valid_devices : (t : Bytes) (d : Column) → check_devices t d ≡ Accepted → Devices t d
+pub valid_devices : (t : Bytes) (d : Column) → check_devices t d ≡ accepted → Devices t d
 unfolding check_devices
 valid_devices t d h =
     let v = passed_values (eqb (length d) (rows t)) (is_bad_device t d) (row d) (rows t) h in
     record { sized = eqb-true _ _ v.of_size; good = λ i l. not-false _ (v.good i l); low = v.low }
 
-pub devices_valid : (t : Bytes) (d : Column) → Devices t d → check_devices t d ≡ Accepted
+pub devices_valid : (t : Bytes) (d : Column) → Devices t d → check_devices t d ≡ accepted
 unfolding check_devices
 devices_valid t d v =
     values_pass (eqb (length d) (rows t)) (is_bad_device t d) (row d) (rows t)

@@ -5,8 +5,7 @@ use Rattle.columns.specs.Column.{Bytes, Column}
 use Rattle.network.specs.Network.{State}
 use Rattle.network.specs.Settled.{rounds_of as networkRounds, settled as networkSettled}
 use Rattle.world.specs.Rows.{rows}
-use Rattle.refusals.specs.declared.Checked.{Checked}
-use Rattle.refusals.specs.Check.{or_else, also, check_input, IsAccepted, answer_of, written}
+use Rattle.refusals.specs.Check.{Checked, or_else, also, check_input, IsAccepted, answer_of, written}
 use Rattle.refusals.specs.Answers.{of_input}
 use Rattle.emitted.specs.Emitted.{emitted, check_devices, IsValid}
 use Rattle.edges.specs.Edges.{network_of}

@@ -13,7 +13,7 @@ use Rattle.columns.specs.Column.{Bytes, Column, row}
 use Rattle.columns.specs.Signal.{max_signal}
 use Rattle.blocks.specs.Kind.{Comparator}
 use Rattle.world.specs.Rows.{rows, kind_of}
-use Rattle.refusals.specs.declared.Checked.TheVariants.{Refused}
+use Rattle.refusals.specs.Check.{refused}
 use Rattle.refusals.proofs.Overdriven.{values_given_overdriven}
 use Rattle.emitted.specs.Emitted.{is_on_off, good_device, is_bad_device, check_devices}
 
@@ -31,7 +31,7 @@ pub above_15 : (k b : ℕ) → good_device k b ≡ true → max_signal < b → k
 above_15 k b h l = by_cases (ℕ_discrete k Comparator) (λ e. e) (λ n. absurd (omega (arith, other_low k b n h)))
 
 -- and so 10 is given of a column for a comparator's byte
-pub overdriven_device : (t : Bytes) (d : Column) (i : ℕ) → check_devices t d ≡ Refused 10 i → (kind_of t i ≡ Comparator) × (max_signal < row d i)
+pub overdriven_device : (t : Bytes) (d : Column) (i : ℕ) → check_devices t d ≡ refused 10 i → (kind_of t i ≡ Comparator) × (max_signal < row d i)
 unfolding check_devices
 overdriven_device t d i h =
     let (_, good, first) = values_given_overdriven (eqb (length d) (rows t)) (is_bad_device t d) (row d) (rows t) i h in

@@ -6,9 +6,7 @@ use Rattle.columns.specs.Column.{Bytes, Column, row, tabulate}
 use Rattle.columns.specs.Signal.{max_signal}
 use Rattle.blocks.specs.Kind.{RedstoneTorch, Repeater, Comparator, RedstoneBlock, is_switch, one_of}
 use Rattle.world.specs.Rows.{rows, kind_of, is_powered, level_or}
-use Rattle.refusals.specs.declared.Checked.{Checked}
-use Rattle.refusals.specs.declared.Checked.TheVariants.{Accepted}
-use Rattle.refusals.specs.Check.{check_values}
+use Rattle.refusals.specs.Check.{Checked, accepted, check_values}
 
 -- what is on or off: torch and repeater
 abbrev pub is_on_off : ℕ → Bool
@@ -30,7 +28,7 @@ check_devices t d = check_values (eqb (length d) (rows t)) (is_bad_device t d) (
 
 -- "a device column of it is valid if none falls on the column"
 abbrev pub IsValid : Bytes → Column → Type 0
-IsValid t d = check_devices t d ≡ Accepted
+IsValid t d = check_devices t d ≡ accepted
 
 -- ---- emitted levels
 

@@ -6,8 +6,8 @@ ghost use Rattle.refusals.specs.Check.{or_else, check_input};
 ghost use Rattle.emitted.specs.Emitted.{good_device, is_bad_device, check_devices};
 
 use blocks::kind;
-use columns::Found;
-use refusals::Checked;
+use columns::{Found, byte_at, first_index};
+use refusals::{Checked, Refused, check_input, check_overdriven, refuse_at, refuse_unless};
 use world::row::{kind_of, rows};
 
 // Whether a row of the kind may have the byte.
@@ -24,37 +24,29 @@ pub fn good_device(kind: u8, byte: u8) -> bool
 fn first_bad_device(table: &[u8], devices: &[u8], rows: usize) -> Found
     ensures { result ≡ first_from (is_bad_device table.now devices.now) rows 0 }
 {
-    let mut i = 0;
-    while i < rows {
-        if good_device(kind_of(table, i), columns::byte_at(devices, i)) {
-            i += 1;
-        } else {
-            return Found::At(i);
-        }
-    }
-    Found::Nothing
+    first_index(
+        rows,
+        |i| !good_device(kind_of(table, i), byte_at(devices, i)),
+    )
 }
 
 // Refusals 6 and 10, over a table that is not crowded, so that the number of the row at fault fits.
+#[tactic(auto, unfolding(crate::specs::Emitted::check_devices))]
 fn check_column(table: &[u8], devices: &[u8]) -> Checked
     requires { rows_of table.now ≤ 1024 }
     ensures { result ≡ check_devices table.now devices.now }
 {
     let rows = rows(table);
-    if devices.len() != rows {
-        return Checked::Refused { number: 6, row: 0 };
-    }
-    let bad = refusals::refuse_at(6, first_bad_device(table, devices, rows), 0);
-    refusals::or_else(bad, refusals::check_overdriven(devices, 1, rows))
+    refuse_unless(Refused::BAD_STATE, devices.len() == rows)?;
+    let bad = first_bad_device(table, devices, rows);
+    refuse_at(Refused::BAD_STATE, bad, 0)?;
+    check_overdriven(devices, 1, rows)
 }
 
 // Refusals 1 to 6 and 10.
 pub fn check_devices(profile: &[u8], table: &[u8], devices: &[u8]) -> Checked
     ensures { result ≡ or_else (check_input profile.now table.now) (check_devices table.now devices.now) }
 {
-    let checked = refusals::check_input(profile, table);
-    if let Checked::Refused { number: _, row: _ } = checked {
-        return checked;
-    }
+    check_input(profile, table)?;
     check_column(table, devices)
 }

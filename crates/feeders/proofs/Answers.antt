@@ -7,7 +7,7 @@ use native.Mathlib.Omega.{arith}
 use lib.ListN.{length}
 use Rattle.columns.specs.Column.{Bytes}
 use Rattle.world.specs.Rows.{rows}
-use Rattle.refusals.specs.declared.Checked.TheVariants.{Accepted}
+use Rattle.refusals.specs.Check.{accepted}
 use Rattle.refusals.specs.Answers.{Gives, Tells}
 use Rattle.refusals.proofs.Accepted.{accepted_input}
 use Rattle.refusals.proofs.Gives.{also_gives, wider_gives, input_gives}
@@ -29,5 +29,5 @@ module _ (p t : Bytes) (list : List ℕ) {list' : List ℕ} {r : ℕ} (c : Feeds
       (λ e is. (is, omega (arith, few e, is), rw e at c.entries))
       (λ n i e. rw e at c.entries)
     where
-      few : check_feeders p t (length list) ≡ Accepted → rows t ≤ 1024
+      few : check_feeders p t (length list) ≡ accepted → rows t ≤ 1024
       few e = (accepted_input p t (given p t (length list) e).input).1.few

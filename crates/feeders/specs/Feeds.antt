@@ -3,9 +3,8 @@
 use Rattle.std.specs.Prelude.{◌≡◌, List, [], ◌∷◌, ◌++◌, ℕ, length}
 use Rattle.columns.specs.Column.{Bytes}
 use Rattle.world.specs.Rows.{rows}
-use Rattle.refusals.specs.declared.Checked.{Checked}
 use Rattle.refusals.specs.Answers.{of_input}
-use Rattle.refusals.specs.Check.{also, check_input, answer_of, written}
+use Rattle.refusals.specs.Check.{Checked, also, check_input, answer_of, written}
 use Rattle.feeding.specs.Feeders.{feeder_list, is_list_length}
 
 -- 1 to 5 and 10; then 7, row 0, as for a replaced row, where the list has not "twelve 16-bit entries per row": of so many entries

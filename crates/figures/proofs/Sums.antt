@@ -1,5 +1,6 @@
 -- Laws of the sums over tables: that no figure is large, and the figures of tables that come one after the other.
 -- Assumes nothing.
+use Rattle.std.proofs.Common.{Ok, Err}
 use mathlib.Core.Path.{◌≡◌, refl, sym, ◌∙◌}
 use mathlib.Core.Bool.{Bool, true, false, not, cond, ◌&&◌}
 use mathlib.Core.Logic.{by_cases}
@@ -13,9 +14,7 @@ use lib.Dec.{eqb}
 use Rattle.columns.specs.Column.{Bytes, Column, row, tabulate}
 use Rattle.columns.proofs.Columns.{length_tabulate, row_tabulate, same_rule, is_tabulate}
 use Rattle.world.specs.Rows.{rows}
-use Rattle.refusals.specs.declared.Checked.{Checked}
-use Rattle.refusals.specs.declared.Checked.TheVariants.{Accepted, Refused}
-use Rattle.refusals.specs.Check.{check_input}
+use Rattle.refusals.specs.Check.{Checked, accepted, refused, check_input}
 use Rattle.refusals.proofs.Accepted.{accepted_input}
 use Rattle.levels.specs.Numbers.{number}
 use Rattle.electrical.specs.Answer.{rounds_of, settled}
@@ -87,8 +86,8 @@ module _ (p : Bytes) where
   level_most l t = go (check_input p t) refl
     where
       go : (c : Checked) → check_input p t ≡ c → cond (is_accepted c) (dust_at t (settled p t (fresh_devices t)).signal l) 0 ≤ 1024
-      go Accepted e = omega (arith, count_most (is_dust_at t (settled p t (fresh_devices t)).signal l) (rows t), (accepted_input p t e).1.few)
-      go (Refused n i) e = zero-le
+      go (Ok _) e = omega (arith, count_most (is_dust_at t (settled p t (fresh_devices t)).signal l) (rows t), (accepted_input p t e).1.few)
+      go (Err fault) e = zero-le
 
   -- no figure of a million tables of 1,024 rows comes near the end of 64 bits
   pub figures_room : (ts : List Bytes) → length ts ≤ 1000000 → Room (figures_of p ts)
@@ -116,7 +115,7 @@ module _ (p : Bytes) where
 
   module _ (f : Figures) (t : Bytes) where
     -- that is settled
-    pub added_settled : check_input p t ≡ Accepted
+    pub added_settled : check_input p t ≡ accepted
         → added f (figures_of p (t ∷ [])) ≡ with_settled f t (rounds_of p t (fresh_devices t)) (settled p t (fresh_devices t)).signal
     unfolding figures_of with_settled
     added_settled h =
@@ -125,7 +124,7 @@ module _ (p : Bytes) where
         rw (sum_one (settled_in p) t, sum_one (refused_in p) t, h, rounds, levels, add-zero)
 
     -- or refused
-    pub added_refused : {n i : ℕ} → check_input p t ≡ Refused n i → length f.rounds ≡ 17 → length f.levels ≡ 16
+    pub added_refused : {n i : ℕ} → check_input p t ≡ refused n i → length f.rounds ≡ 17 → length f.levels ≡ 16
         → added f (figures_of p (t ∷ [])) ≡ with_refused f
     unfolding figures_of
     added_refused h r l =

@@ -1,12 +1,10 @@
 -- The figures of a month: what each table adds to them, and their sums. What stands in quotation marks is document 02's, Change 1.
 -- Assumes nothing.
-use Rattle.std.specs.Prelude.{Bool, true, false, not, cond, ◌&&◌, List, [], ◌∷◌, ℕ, zero, suc, ◌+◌, eqb}
+use Rattle.std.specs.Prelude.{Ok, Err, Bool, true, false, not, cond, ◌&&◌, List, [], ◌∷◌, ℕ, zero, suc, ◌+◌, eqb}
 use Rattle.columns.specs.Column.{Bytes, Column, row, tabulate}
 use Rattle.blocks.specs.Kind.{is_dust}
 use Rattle.world.specs.Rows.{rows, kind_of}
-use Rattle.refusals.specs.declared.Checked.{Checked}
-use Rattle.refusals.specs.declared.Checked.TheVariants.{Accepted, Refused}
-use Rattle.refusals.specs.Check.{check_input}
+use Rattle.refusals.specs.Check.{Checked, check_input}
 use Rattle.levels.specs.Numbers.{number}
 use Rattle.electrical.specs.Answer.{rounds_of, settled}
 use Rattle.updates.specs.State.{fresh_devices}
@@ -15,8 +13,8 @@ use Rattle.figures.specs.declared.Figures.{Figures}
 -- ---- what a table adds to each figure, under the profile p
 
 abbrev pub is_accepted : Checked → Bool
-is_accepted Accepted = true
-is_accepted (Refused n i) = false
+is_accepted (Ok _) = true
+is_accepted (Err fault) = false
 
 -- it is settled where no refusal falls on it. Number 8, "limit below the rounds needed", never does: no table needs more rounds than 17
 abbrev pub is_settled : Bytes → Bytes → Bool

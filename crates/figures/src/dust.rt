@@ -15,14 +15,11 @@ pub fn with_levels(levels: [u64; 16], table: &[u8], signal: &[u8]) -> [u64; 16]
     ensures { result ≡ with_levels levels table.now signal.now }
 {
     let mut counts = levels;
-    let n = row::rows(table);
-    let mut i = 0;
-    while i < n {
+    for i in 0..row::rows(table) {
         if row::kind_of(table, i) == REDSTONE_WIRE {
             let level = byte_at(signal, i) as usize;
             counts[level] += 1;
         }
-        i += 1;
     }
     counts
 }

@@ -2,8 +2,7 @@
 -- Assumes nothing.
 use Rattle.std.specs.Prelude.{◌≡◌, replicate}
 use Rattle.columns.specs.Column.{Bytes, Column, at_front}
-use Rattle.refusals.specs.declared.Checked.{Checked}
-use Rattle.refusals.specs.Check.{check_input, answer_of, written}
+use Rattle.refusals.specs.Check.{Checked, check_input, answer_of, written}
 use Rattle.electrical.specs.Answer.{rounds_of, settled}
 use Rattle.updates.specs.State.{fresh_devices}
 use Rattle.initial.specs.declared.Initial.{Initial}

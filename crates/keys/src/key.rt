@@ -17,17 +17,15 @@ pub fn round_of(key: u8) -> u8
     ensures { result ≡ round_of key }
 {
     if key == 0 {
-        return 0;
+        0
+    } else {
+        (16 * (level_of(key) as u32) + 1 - (key as u32)) as u8
     }
-    (16 * (level_of(key) as u32) + 1 - (key as u32)) as u8
 }
 
 // The key of dust with a direct level, which is capped.
 pub fn own_key(direct: u8) -> u8
     ensures { result ≡ 16 * min max_signal direct }
 {
-    if direct < Signal::MAX {
-        return direct * 16;
-    }
-    Signal::MAX * 16
+    direct.min(Signal::MAX) * 16
 }

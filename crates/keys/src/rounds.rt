@@ -3,15 +3,14 @@ ghost use Rattle.std.specs.Prelude.{◌≡◌, length};
 ghost use Rattle.keys.specs.Rounds.{last_of, shown_by, last_shown};
 
 use crate::key::{level_of, round_of};
-use columns::larger;
 
 // The last round in which a level of dust arrives.
 pub fn last_of(keys: &[u8]) -> u8
     ensures { result ≡ last_of keys.now }
 {
     let mut last = 0;
-    for i in 0..keys.len() {
-        last = larger(last, round_of(keys[i]));
+    for key in keys {
+        last = last.max(round_of(*key));
     }
     last
 }
@@ -21,9 +20,10 @@ fn shown(base: u8, key: u8) -> u8
     ensures { result ≡ shown_by base key }
 {
     if base < level_of(key) {
-        return round_of(key);
+        round_of(key)
+    } else {
+        0
     }
-    0
 }
 
 // The last of them.
@@ -32,8 +32,8 @@ pub fn last_shown(base: &[u8], under: &[u8]) -> u8
     ensures { result ≡ last_shown base.now under.now }
 {
     let mut last = 0;
-    for i in 0..under.len() {
-        last = larger(last, shown(base[i], under[i]));
+    for (i, key) in under.iter().enumerate() {
+        last = last.max(shown(base[i], *key));
     }
     last
 }

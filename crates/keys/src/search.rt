@@ -30,6 +30,7 @@ fn skip_blocks(keys: &[u8], from: usize, low: u8, high: u8) -> usize
     ensures { Skipped keys.now low high from result }
 {
     let mut p = from;
+    // By the row where a block begins, which is the answer.
     while p + BLOCK <= keys.len() {
         if any_within(keys, p, p + BLOCK, low, high) {
             return p;
@@ -44,12 +45,10 @@ pub fn next_within(keys: &[u8], from: usize, low: u8, high: u8) -> usize
     requires { from ≤ length keys.now }
     ensures { Reached keys.now low high from result }
 {
-    let mut p = skip_blocks(keys, from, low, high);
-    while p < keys.len() {
+    for p in skip_blocks(keys, from, low, high)..keys.len() {
         if is_within(keys[p], low, high) {
             return p;
         }
-        p += 1;
     }
-    p
+    keys.len()
 }

@@ -5,43 +5,44 @@ ghost use Rattle.network.specs.Laws.Loop.{Answered};
 ghost use Rattle.blocks.specs.Kind.{is_dust};
 ghost use Rattle.circuit.specs.declared.Edge.TheVariants.{Transmits};
 ghost use Rattle.classes.specs.Class.{kind_in};
-ghost use Rattle.circuit.specs.Circuit.{Shaped, edge_in, circuit};
+ghost use Rattle.circuit.specs.Circuit.{edge_in, circuit};
 ghost use Rattle.keys.specs.Pass.{own_keys, Kept};
 ghost use Rattle.keys.specs.Settle.{under_of, signals_by, weak_by, rounds_from, Outputs, Room};
 
 use crate::key::level_of;
 use crate::pass::fill_keys;
 use crate::rounds::{last_of, last_shown};
-use circuit::Edge;
+use circuit::{Edge, Network};
 use classes::is_dust_in;
-use columns::{larger, zeros};
+use columns::zeros;
 use power::{fill_power, none_mapped};
 use spread::spread;
 
 // The largest key of the dust that gives each row weak power.
-fn fill_under(near: &[u16], class: &[u32], keys: &[u8], under: &mut [u8])
-    requires { Shaped near.now class.now × (length keys.now ≡ length class.now) × (length under.old ≡ length class.now) }
-    ensures { under.new ≡ under_of near.now class.now keys.now }
+fn fill_under(network: Network, keys: &[u8], under: &mut [u8])
+    requires { (length keys.now ≡ length network.class.now) × (length under.old ≡ length network.class.now) }
+    ensures { under.new ≡ under_of network.entry.near.now network.entry.class.now keys.now }
 {
     zeros(under);
-    spread(Edge::DustToWeak, 0, near, class, keys, under);
+    spread(Edge::DustToWeak, 0, network, keys, under);
 }
 
 fn signal_by(class: u32, emitted: u8, key: u8) -> u8
     ensures { result ≡ cond (is_dust (kind_in class)) (level_of key) emitted }
 {
     if is_dust_in(class) {
-        return level_of(key);
+        level_of(key)
+    } else {
+        emitted
     }
-    emitted
 }
 
 fn fill_signals(class: &[u32], emitted: &[u8], keys: &[u8], signal: &mut [u8])
     requires { (length emitted.now ≡ length class.now) × (length keys.now ≡ length class.now) × (length signal.old ≡ length class.now) }
     ensures { signal.new ≡ signals_by class.now emitted.now keys.now }
 {
-    for i in 0..signal.len() {
-        signal[i] = signal_by(class[i], emitted[i], keys[i]);
+    for (i, level) in signal.iter_mut().enumerate() {
+        *level = signal_by(class[i], emitted[i], keys[i]);
     }
 }
 
@@ -49,15 +50,9 @@ fn fill_weak(base: &[u8], under: &[u8], weak: &mut [u8])
     requires { (length under.now ≡ length base.now) × (length weak.old ≡ length base.now) }
     ensures { weak.new ≡ weak_by base.now under.now }
 {
-    for i in 0..weak.len() {
-        weak[i] = larger(base[i], level_of(under[i]));
+    for (i, level) in weak.iter_mut().enumerate() {
+        *level = base[i].max(level_of(under[i]));
     }
-}
-
-fn larger_of(a: u32, b: u32) -> u32
-    ensures { result ≡ max a b }
-{
-    if a < b { b } else { a }
 }
 
 fn rounds_from(class: &[u32], keys: &[u8], base: &[u8], under: &[u8]) -> u32
@@ -66,19 +61,20 @@ fn rounds_from(class: &[u32], keys: &[u8], base: &[u8], under: &[u8]) -> u32
 {
     let dust = last_of(keys) as u32 + 1;
     if none_mapped(class) {
-        return dust;
+        dust
+    } else {
+        dust.max(last_shown(base, under) as u32 + 2)
     }
-    larger_of(dust, last_shown(base, under) as u32 + 2)
 }
 
 // The keys of the dust, of its direct levels, and in their place the largest keys that give weak power.
-fn fill_reach(near: &[u16], class: &[u32], under: &mut [u8], keys: &mut [u8])
-    requires { Shaped near.now class.now × (length under.old ≡ length class.now) × (length keys.old ≡ length class.now) }
-    ensures keys { Kept (length class.now) (edge_in near.now class.now Transmits) (own_keys under.old) keys.new }
-    ensures under { under.new ≡ under_of near.now class.now keys.new }
+fn fill_reach(network: Network, under: &mut [u8], keys: &mut [u8])
+    requires { (length under.old ≡ length network.class.now) × (length keys.old ≡ length network.class.now) }
+    ensures keys { Kept (length network.entry.class.now) (edge_in network.entry.near.now network.entry.class.now Transmits) (own_keys under.old) keys.new }
+    ensures under { under.new ≡ under_of network.entry.near.now network.entry.class.now keys.new }
 {
-    fill_keys(near, class, under, keys);
-    fill_under(near, class, keys, under);
+    fill_keys(network, under, keys);
+    fill_under(network, keys, under);
 }
 
 // The settled signals and weak power, and the number of rounds.
@@ -101,54 +97,25 @@ fn fill_settled(
     rounds_from(class, keys, base, under)
 }
 
-// Settles in lent room.
-fn settle_in(
-    near: &[u16],
-    class: &[u32],
-    emitted: &[u8],
-    base: &mut [u8],
-    under: &mut [u8],
-    keys: &mut [u8],
-    signal: &mut [u8],
-    weak: &mut [u8],
-    strong: &mut [u8],
-) -> u32
-    requires shaped { Shaped near.now class.now }
-    requires room { Room (length class.now) base.old under.old keys.old }
-    requires outputs { Outputs (length class.now) emitted.now signal.old weak.old strong.old }
-    ensures { Answered (circuit near.now class.now) emitted.now strong.new result signal.new weak.new }
-{
-    fill_power(near, class, emitted, strong, base, under);
-    fill_reach(near, class, under, keys);
-    fill_settled(class, emitted, base, under, keys, signal, weak)
-}
-
 // Fills the settled columns of the emitted levels, and gives the number of rounds.
 pub fn settle(
-    near: &[u16],
-    class: &[u32],
+    network: Network,
     emitted: &[u8],
     signal: &mut [u8],
     weak: &mut [u8],
     strong: &mut [u8],
 ) -> u32
-    requires shaped { Shaped near.now class.now }
-    requires outputs { Outputs (length class.now) emitted.now signal.old weak.old strong.old }
-    ensures { Answered (circuit near.now class.now) emitted.now strong.new result signal.new weak.new }
+    requires outputs { Outputs (length network.class.now) emitted.now signal.old weak.old strong.old }
+    ensures { Answered (circuit network.entry.near.now network.entry.class.now) emitted.now strong.new result signal.new weak.new }
 {
-    let n = class.len();
+    let n = network.class.len();
     let mut base = [0u8; 1024];
     let mut under = [0u8; 1024];
     let mut keys = [0u8; 1024];
-    settle_in(
-        near,
-        class,
-        emitted,
-        &mut base[..n],
-        &mut under[..n],
-        &mut keys[..n],
-        signal,
-        weak,
-        strong,
-    )
+    let base = &mut base[..n];
+    let under = &mut under[..n];
+    let keys = &mut keys[..n];
+    fill_power(network, emitted, strong, base, under);
+    fill_reach(network, under, keys);
+    fill_settled(network.class, emitted, base, under, keys, signal, weak)
 }

@@ -1,12 +1,13 @@
 // A lamp's step.
 #![tactic(auto)]
 
-ghost use Rattle.std.specs.Prelude.{◌≡◌, length};
+ghost use Rattle.std.specs.Prelude.{◌≡◌};
 ghost use Rattle.lamp.specs.Step.{next_lit, next_left, lamp_row};
 
 use blocks::kind;
-use levels::has_power;
+use levels::Power;
 
+#[tactic(auto, unfolding(crate::specs::Step::next_lit))]
 fn next_lit(power: bool, lit: u8, left: u8) -> u8
     ensures { result ≡ next_lit power lit left }
 {
@@ -17,6 +18,7 @@ fn next_lit(power: bool, lit: u8, left: u8) -> u8
 }
 
 // A lamp that goes dark has two ticks left.
+#[tactic(auto, unfolding(crate::specs::Step::next_left))]
 fn next_left(power: bool, lit: u8, left: u8) -> u8
     ensures { result ≡ next_left power lit left }
 {
@@ -27,12 +29,12 @@ fn next_left(power: bool, lit: u8, left: u8) -> u8
 }
 
 // The lamp of a row, from the new settled power.
-pub fn lamp_step(table: &[u8], weak: &[u8], strong: &[u8], row: usize, sixteen: &mut [u8])
-    requires { length sixteen.old ≡ 16 }
-    ensures { sixteen.new ≡ lamp_row table.now weak.now strong.now row sixteen.old }
+#[tactic(auto, unfolding(crate::specs::Step::lamp_row))]
+pub fn lamp_step(table: &[u8], power: Power, row: usize, sixteen: &mut [u8; 16])
+    ensures { sixteen.new ≡ lamp_row table.now power.entry.weak.now power.entry.strong.now row sixteen.old }
 {
     if world::row::kind_of(table, row) == kind::REDSTONE_LAMP {
-        let power = has_power(weak, strong, row);
+        let power = power.any_at(row);
         let lit = sixteen[2];
         let left = sixteen[3];
         sixteen[2] = next_lit(power, lit, left);

@@ -1,11 +1,11 @@
 // A good profile, and a good row: each test of a row is one expression, with no branch.
 #![tactic(auto)]
 
-ghost use Rattle.std.specs.Prelude.{◌≡◌, ◌+◌, ◌*◌, ◌%◌, length, leb, ℤ};
+ghost use Rattle.std.specs.Prelude.{◌≡◌, ◌+◌, ◌*◌, ◌%◌, ◌<◌, leb, ℤ};
 ghost use Rattle.layout.specs.Good.{most_of, low_bytes, good_profile, in_range, good_place, good_kind, good_value, good_support, good_arms, good_tail, good_row};
 
 use blocks::{PROFILE_BYTES, PROFILE_BYTES_WITH_BULB, kind};
-use columns::byte_at;
+use columns::{all_indices, byte_at};
 use places::Pos;
 
 // The sum of all values of a kind; the torch has one value more.
@@ -28,14 +28,10 @@ fn most_of(kind: usize) -> u8
 fn low_bytes(profile: &[u8]) -> bool
     ensures { result ≡ low_bytes profile.now }
 {
-    let mut k = 0;
-    while k < PROFILE_BYTES_WITH_BULB {
-        if most_of(k) < byte_at(profile, k) {
-            return false;
-        }
-        k += 1;
-    }
-    true
+    all_indices(
+        PROFILE_BYTES_WITH_BULB,
+        |k| byte_at(profile, k) <= most_of(k),
+    )
 }
 
 // Whether a profile has 13 or 14 bytes, 0 for Air and none above the most of its kind.
@@ -59,36 +55,28 @@ pub fn good_place(q: Pos) -> bool
     in_range(q.x) & in_range(q.y) & in_range(q.z)
 }
 
-fn good_kind(row: &[u8]) -> bool
-    requires { length row.now ≡ 32 }
+fn good_kind(row: &[u8; 32]) -> bool
     ensures { result ≡ good_kind row.now 0 }
 {
     (1 <= row[12]) & (row[12] <= kind::COPPER_BULB) & (row[13] <= 6) & (row[14] <= 2)
 }
 
-fn good_level(row: &[u8]) -> bool
-    requires { length row.now ≡ 32 }
-    ensures { result ≡ good_value row.now 0 15 }
+// Whether byte b says that a value is given in the next one, or that none is, and the next one is 0.
+fn good_value(row: &[u8; 32], b: usize) -> bool
+    requires { b < 31 }
+    ensures { result ≡ good_value row.now 0 b }
 {
-    ((row[15] == 0) & (row[16] == 0)) | (row[15] == 1)
-}
-
-fn good_delay(row: &[u8]) -> bool
-    requires { length row.now ≡ 32 }
-    ensures { result ≡ good_value row.now 0 17 }
-{
-    ((row[17] == 0) & (row[18] == 0)) | (row[17] == 1)
+    ((row[b] == 0) & (row[b + 1] == 0)) | (row[b] == 1)
 }
 
 // Whether a byte of the support's offset is 0 where none is given, and -1, 0 or 1 where one is: where `given` is 0 or 1, one test for both.
 fn is_offset(given: u8, d: u8) -> bool
     ensures { result ≡ leb ((d + given) % 256) (2 * given) }
 {
-    (d as u32 + given as u32) % 256 <= 2 * (given as u32)
+    u32::from(d.wrapping_add(given)) <= 2 * u32::from(given)
 }
 
-fn good_support(row: &[u8]) -> bool
-    requires { length row.now ≡ 32 }
+fn good_support(row: &[u8; 32]) -> bool
     ensures { result ≡ good_support row.now 0 }
 {
     let given = row[19];
@@ -96,30 +84,27 @@ fn good_support(row: &[u8]) -> bool
         & (is_offset(given, row[20]) & is_offset(given, row[21]) & is_offset(given, row[22]))
 }
 
-fn good_arms(row: &[u8]) -> bool
-    requires { length row.now ≡ 32 }
+fn good_arms(row: &[u8; 32]) -> bool
     ensures { result ≡ good_arms row.now 0 }
 {
     ((row[23] == 0) & ((row[24] == 0) & (row[25] == 0) & (row[26] == 0) & (row[27] == 0)))
         | ((row[23] == 1) & ((row[24] <= 3) & (row[25] <= 3) & (row[26] <= 3) & (row[27] <= 3)))
 }
 
-fn good_tail(row: &[u8]) -> bool
-    requires { length row.now ≡ 32 }
+fn good_tail(row: &[u8; 32]) -> bool
     ensures { result ≡ good_tail row.now 0 }
 {
     (row[28] <= 6) & (row[29] <= 1) & (row[30] == 0) & (row[31] == 0)
 }
 
 // Whether each field of a row, which is lent by itself, is within the layout.
-pub fn good_row(row: &[u8]) -> bool
-    requires { length row.now ≡ 32 }
+pub fn good_row(row: &[u8; 32]) -> bool
     ensures { result ≡ good_row row.now 0 }
 {
     good_place(world::row::pos_in(row))
         & good_kind(row)
-        & good_level(row)
-        & good_delay(row)
+        & good_value(row, 15)
+        & good_value(row, 17)
         & good_support(row)
         & good_arms(row)
         & good_tail(row)

@@ -22,3 +22,7 @@ has_power weak strong i = not (eqb (power_at weak strong i) 0)
 -- what is on or off as a number
 abbrev pub number : Bool → ℕ
 number b = cond b 1 0
+
+-- "each is the largest of signal, weak and strong"
+abbrev pub electrical_level : Numbers → ℕ → ℕ
+electrical_level s j = max (row s.signal j) (power_at s.weak s.strong j)

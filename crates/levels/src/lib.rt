@@ -1,28 +1,54 @@
-// The settled power, read at a row: 0 past the end of a column. And what is on or off, as a number.
+// The numbers that a table settled to, read at a row: 0 past the end of a column. And what is on or off, as a number.
 #![tactic(auto)]
 
 pub mod signal;
 
 ghost use Rattle.std.specs.Prelude.{◌≡◌};
-ghost use Rattle.levels.specs.Numbers.{number, power_at, has_power};
+ghost use Rattle.levels.specs.Numbers.{number, power_at, has_power, electrical_level};
+ghost use Rattle.levels.specs.Lent.{lent};
 
-use columns::{byte_at, larger};
+use columns::byte_at;
 
 pub fn number(b: bool) -> u8
     ensures { result ≡ number b }
 {
-    if b { 1 } else { 0 }
+    u8::from(b)
 }
 
-// The larger of weak and strong power: `PoweredBlockState::level`.
-pub fn power_at(weak: &[u8], strong: &[u8], row: usize) -> u8
-    ensures { result ≡ power_at weak.now strong.now row }
-{
-    larger(byte_at(weak, row), byte_at(strong, row))
+// The weak and strong power that a table settled to, as columns that are lent.
+#[derive(Clone, Copy)]
+pub struct Power<'a> {
+    pub weak: &'a [u8],
+    pub strong: &'a [u8],
 }
 
-pub fn has_power(weak: &[u8], strong: &[u8], row: usize) -> bool
-    ensures { result ≡ has_power weak.now strong.now row }
-{
-    power_at(weak, strong, row) != 0
+impl<'a> Power<'a> {
+    // The larger of weak and strong power: `PoweredBlockState::level`.
+    pub fn level_at(self, row: usize) -> u8
+        ensures { result ≡ power_at self.entry.weak.now self.entry.strong.now row }
+    {
+        byte_at(self.weak, row).max(byte_at(self.strong, row))
+    }
+
+    pub fn any_at(self, row: usize) -> bool
+        ensures { result ≡ has_power self.entry.weak.now self.entry.strong.now row }
+    {
+        self.level_at(row) != 0
+    }
+}
+
+// The numbers that a table settled to, as columns that are lent.
+#[derive(Clone, Copy)]
+pub struct Numbers<'a> {
+    pub signal: &'a [u8],
+    pub power: Power<'a>,
+}
+
+impl<'a> Numbers<'a> {
+    // The largest of signal, weak and strong power.
+    pub fn electrical_level(self, row: usize) -> u8
+        ensures { result ≡ electrical_level (lent self.entry) row }
+    {
+        byte_at(self.signal, row).max(self.power.level_at(row))
+    }
 }

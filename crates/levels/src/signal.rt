@@ -1,5 +1,5 @@
 // The bounds that signals and rounds have.
-ghost use Rattle.std.specs.Prelude.{◌≡◌, min};
+ghost use Rattle.std.specs.Prelude.{◌≡◌, cond, min};
 ghost use Rattle.columns.specs.Signal.{max_signal};
 
 // The level of a signal.
@@ -15,10 +15,16 @@ impl Signal {
     pub fn capped(self) -> Self
         ensures { result.level ≡ min max_signal self.level }
     {
-        if Self::MAX < self.level {
-            return Self { level: Self::MAX };
+        Self {
+            level: self.level.min(Self::MAX),
         }
-        self
+    }
+
+    // The level of what says none: the largest where it is on.
+    pub fn unsaid(on: bool) -> u8
+        ensures { result ≡ cond on max_signal 0 }
+    {
+        if on { Self::MAX } else { 0 }
     }
 }
 

@@ -11,9 +11,8 @@ use borrow.Author.Tests.{leb-true, not-true}
 use Rattle.columns.specs.Column.{Bytes}
 use Rattle.places.specs.declared.Pos.{Pos}
 use Rattle.world.specs.Rows.{rows, pos_of}
-use Rattle.refusals.specs.declared.Checked.TheVariants.{Accepted}
 use Rattle.refusals.specs.Accepted.{Table}
-use Rattle.refusals.specs.Check.{check_table, IsAccepted}
+use Rattle.refusals.specs.Check.{accepted, check_table, IsAccepted}
 use Rattle.refusals.proofs.Passed.{passed_unless}
 use Rattle.refusals.proofs.Accepted.{OfKinds, different, accepted_table, accepted_of_kinds, accepted_input, accepted_kinds, table_accepted, input_accepted}
 use Rattle.moving.specs.Move.{moved_table}
@@ -59,7 +58,7 @@ module _ (a b : Bytes) (by : Pos) (bytes : ℕ) (g : Given a b by bytes) where
 
 -- ---- tables that are merged
 
-module _ (a b : Bytes) (by : Pos) (bytes : ℕ) (passed : check_merge a b by bytes ≡ Accepted) where
+module _ (a b : Bytes) (by : Pos) (bytes : ℕ) (passed : check_merge a b by bytes ≡ accepted) where
   tested : Given a b by bytes
   tested = given a b by bytes (both_passed a b by bytes passed).0
 
@@ -153,7 +152,7 @@ module _ (a b : Bytes) (by : Pos) (bytes : ℕ) (passed : check_merge a b by byt
       (merged_member r (merged_has r h)))
 
   -- so that it may be merged again
-  pub merged_again : check_table 14 (merged_table a b by) ≡ Accepted
+  pub merged_again : check_table 14 (merged_table a b by) ≡ accepted
   merged_again =
       let (t, k) = merged-table 14 (accepted_of_kinds 14 a tested.first) (accepted_of_kinds 14 b tested.second) in
       table_accepted 14 (merged_table a b by) t k

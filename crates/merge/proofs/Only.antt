@@ -7,7 +7,7 @@ use mathlib.Core.List.{Memᴰ}
 use Prim.Native.Nat.{ℕ}
 use Rattle.columns.specs.Column.{Bytes}
 use Rattle.places.specs.declared.Pos.{Pos}
-use Rattle.refusals.specs.declared.Checked.TheVariants.{Accepted}
+use Rattle.refusals.specs.Check.{accepted}
 use Rattle.refusals.specs.Accepted.{Table}
 use Rattle.unions.specs.Union.{rows_of, joined, union_rows}
 use Rattle.unions.proofs.Rising.{rising_union}
@@ -50,5 +50,5 @@ module _ (a b : Bytes) (by : Pos) (bytes : ℕ) (g : Given a b by bytes) (t : By
   only_merged = sym (joined_rows_of t table.whole) ∙ ap joined (sym its_rows)
 
   -- and neither 12 nor 3 falls
-  pub held_merged : check_merge a b by bytes ≡ Accepted
+  pub held_merged : check_merge a b by bytes ≡ accepted
   held_merged = merge_passes a b by bytes g none (rw (its_rows, length_rows t) table.few)

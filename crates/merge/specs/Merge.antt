@@ -3,10 +3,8 @@
 use Rattle.std.specs.Prelude.{◌≡◌, not, List, [], ◌∷◌, ◌++◌, map, ℕ, length, eqb, leb}
 use Rattle.columns.specs.Column.{Bytes, at_front}
 use Rattle.places.specs.declared.Pos.{Pos}
-use Rattle.refusals.specs.declared.Checked.{Checked}
-use Rattle.refusals.specs.declared.Checked.TheVariants.{Accepted}
 use Rattle.refusals.specs.Answers.{of_table}
-use Rattle.refusals.specs.Check.{refuse_unless, or_else, check_table, answer_of, written}
+use Rattle.refusals.specs.Check.{Checked, accepted, refuse_unless, or_else, check_table, answer_of, written}
 use Rattle.moving.specs.Move.{moved_row, on_ground}
 use Rattle.unions.specs.Union.{rows_of, joined, union_rows, has_clash}
 
@@ -36,7 +34,7 @@ check_merge a b by bytes =
     (refuse_unless 7 (eqb bytes 32768)
     (refuse_unless 11 (on_ground by b)
     (refuse_unless 12 (not (has_clash (rows_of a) (moved_rows b by)))
-    (refuse_unless 3 (leb (length (merged_rows a b by)) 1024) Accepted)))))
+    (refuse_unless 3 (leb (length (merged_rows a b by)) 1024) accepted)))))
 
 -- the numbers that are given
 abbrev pub of_merge : List ℕ

@@ -3,10 +3,10 @@
 
 ghost use Rattle.std.specs.Prelude.{◌+◌, ◌*◌, ◌≤◌, length};
 ghost use Rattle.text.specs.Put.{Puts};
-ghost use Rattle.columns.specs.Ascii.{ascii};
 ghost use Rattle.month_lines.specs.Lines.{numbered_line, numbered_lines, ended_text, month_text, text_of};
 
 use blocks::PROFILE_BYTES;
+use refusals::Refused;
 use streams::Ending;
 use totals::Month;
 
@@ -28,30 +28,10 @@ fn numbered_lines(out: &mut [u8], at: usize, name: &[u8], first: usize, counts: 
     ensures few { result ≤ at + length counts.now * 49 }
 {
     let mut end = at;
-    let mut k = 0;
-    while k < counts.len() {
-        end = numbered_line(out, end, name, first + k, counts[k]);
-        k += 1;
+    for (k, count) in counts.iter().enumerate() {
+        end = numbered_line(out, end, name, first + k, *count);
     }
     end
-}
-
-// The lines of the numbers of rounds.
-fn rounds_lines(out: &mut [u8], at: usize, rounds: [u64; 17]) -> usize
-    requires { at + 833 ≤ length out.old }
-    ensures puts { Puts (numbered_lines (ascii "rounds_") 1 rounds) at out.old out.new result }
-    ensures few { result ≤ at + 833 }
-{
-    numbered_lines(out, at, b"rounds_", 1, &rounds)
-}
-
-// The lines of the levels.
-fn level_lines(out: &mut [u8], at: usize, levels: [u64; 16]) -> usize
-    requires { at + 784 ≤ length out.old }
-    ensures puts { Puts (numbered_lines (ascii "level_") 0 levels) at out.old out.new result }
-    ensures few { result ≤ at + 784 }
-{
-    numbered_lines(out, at, b"level_", 0, &levels)
 }
 
 // How the reading ended.
@@ -72,14 +52,11 @@ fn all_lines(out: &mut [u8], month: Month) -> usize
     ensures { Puts (month_text month) 0 out.old out.new result }
 {
     let figures = month.figures;
-    let rounds = figures.rounds;
-    let levels = figures.levels;
-    let ending = month.ending;
     let second = text::line(out, 0, b"tables=", figures.tables);
     let third = text::line(out, second, b"refused=", figures.refused);
-    let fourth = rounds_lines(out, third, rounds);
-    let last = level_lines(out, fourth, levels);
-    ended_line(out, last, ending)
+    let fourth = numbered_lines(out, third, b"rounds_", 1, &figures.rounds);
+    let last = numbered_lines(out, fourth, b"level_", 0, &figures.levels);
+    ended_line(out, last, month.ending)
 }
 
 // The text for a profile and the month of the tables after it, at the front.
@@ -90,5 +67,5 @@ pub fn text_of(out: &mut [u8], profile: &[u8], month: Month) -> usize
     if (profile.len() == PROFILE_BYTES) & layout::good_profile(profile) {
         return all_lines(out, month);
     }
-    lines::refusal(out, 1, 0)
+    lines::refusal(out, Refused::PROFILE, 0)
 }

@@ -1,16 +1,16 @@
 -- Laws of a number's bits, of the four bytes that hold them, and of the twelve bytes of a position.
 -- Assumes nothing.
 use mathlib.Core.Path.{◌≡◌, refl, ap, ◌∙◌}
-use mathlib.Core.Bool.{true, false, true≢false}
 use mathlib.Core.List.{[], ◌++◌}
-use Prim.Native.Nat.{ℕ, suc, ◌+◌, ◌-◌, ◌*◌, ◌/◌, ◌%◌, ◌≤◌, ◌<◌}
-use native.Mathlib.Nat.{not-suc-le-zero}
+use Prim.Native.Nat.{ℕ, ◌+◌, ◌-◌, ◌*◌, ◌/◌, ◌%◌, ◌≤◌, ◌<◌}
 use native.Mathlib.Omega.{arith}
-use lib.IntN.{ℤ, pos, negsuc, ◌+ℤ◌}
-use lib.Signed.{lt_z, mag}
+use lib.IntN.{ℤ, pos, negsuc}
+use lib.Signed.{mag}
 use lib.ListN.{length, drop, length-drop, drop_of_length-le}
 use lib.Seq.{drop-drop, sets, sets-eq}
-use borrow.Author.Tests.{ltb-true, lt-ltb, le-ltb}
+use borrow.Author.Tests.{lt-ltb, le-ltb}
+use mir.Syntax.{w32}
+use Rattle.std.specs.Int.{cast_unsigned}
 use Rattle.columns.specs.Column.{Bytes}
 use Rattle.words.specs.Words.{four_bytes}
 use Rattle.words.proofs.FourBytes.{word_again}
@@ -27,17 +27,10 @@ pub bits_few : (z : ℤ) → mag z < 2147483648 → bits32 z < 4294967296
 bits_few (pos n) h = omega arith
 bits_few (negsuc n) h = omega arith
 
--- a number below 0 has the bits of the number 2^32 above it
-pub bits_below : (z : ℤ) → mag z < 2147483648 → lt_z z (pos 0) ≡ true → z +ℤ pos 4294967296 ≡ pos (bits32 z)
-bits_below (pos n) h e = absurd (not-suc-le-zero (ltb-true n 0 e))
-bits_below (negsuc n) h e =
-    let same : 4294967296 - suc n ≡ 4294967295 - n = omega arith in
-    rw (le-ltb 4294967296 (suc n) (omega arith), same)
-
--- and a number from 0 on has its own
-pub bits_from : (z : ℤ) → lt_z z (pos 0) ≡ false → z ≡ pos (bits32 z)
-bits_from (pos n) e = refl
-bits_from (negsuc n) e = absurd (true≢false e)
+-- they are the library's
+pub bits_are : (z : ℤ) → cast_unsigned w32 z ≡ bits32 z
+bits_are (pos n) = refl
+bits_are (negsuc n) = omega arith
 
 -- "signed 32 bits": they are read as the number
 signed_bits : (z : ℤ) → mag z < 2147483648 → signed32 (bits32 z) ≡ z

@@ -5,8 +5,9 @@ ghost use Rattle.std.specs.Prelude.{◌≡◌, true, ◌*◌, length, ℤ};
 ghost use Rattle.columns.specs.First.{all_below};
 ghost use Rattle.world.specs.Rows.{rows, pos_of};
 ghost use Rattle.layout.specs.Good.{good_place};
-ghost use Rattle.moving.specs.Move.{moved_by, bits32, pos_bytes, moved_row, moved_table, in_offset_range, good_offset, on_ground};
+ghost use Rattle.moving.specs.Move.{moved_by, pos_bytes, moved_row, moved_table, in_offset_range, good_offset, on_ground};
 
+use columns::all_indices;
 use layout::good_place;
 use places::Pos;
 use words::write_word;
@@ -24,20 +25,18 @@ fn good_offset(by: Pos) -> bool
     in_offset_range(by.x) & in_offset_range(by.y) & in_offset_range(by.z)
 }
 
+// Whether every moved coordinate of a row is in range.
+fn row_stays(table: &[u8], row: usize, by: Pos) -> bool
+    ensures { result ≡ good_place (moved_by by (pos_of table.now row)) }
+{
+    good_place(row::pos_of(table, row).offset(by.x, by.y, by.z))
+}
+
 // Whether every moved coordinate is in range.
 fn rows_stay(table: &[u8], by: Pos) -> bool
     ensures { result ≡ all_below (λ i. good_place (moved_by by (pos_of table.now i))) (rows table.now) }
 {
-    let n = row::rows(table);
-    let mut i = 0;
-    while i < n {
-        if good_place(row::pos_of(table, i).offset(by.x, by.y, by.z)) {
-            i += 1;
-        } else {
-            return false;
-        }
-    }
-    true
+    all_indices(row::rows(table), |i| row_stays(table, i, by))
 }
 
 // Whether the offset and every moved coordinate are in range.
@@ -50,24 +49,14 @@ pub fn on_ground(table: &[u8], by: Pos) -> bool
     false
 }
 
-// The bits of a signed number.
-fn bits(c: i32) -> u32
-    ensures { result ≡ bits32 c }
-{
-    if c < 0 {
-        return ((c as i64) + 4294967296) as u32;
-    }
-    c as u32
-}
-
 // Writes a position to twelve bytes.
 fn write_pos(bytes: &mut [u8], q: Pos)
     requires { length bytes.old ≡ 12 }
     ensures { bytes.new ≡ pos_bytes q }
 {
-    write_word(bytes, 0, bits(q.x));
-    write_word(bytes, 4, bits(q.y));
-    write_word(bytes, 8, bits(q.z));
+    write_word(bytes, 0, q.x.cast_unsigned());
+    write_word(bytes, 4, q.y.cast_unsigned());
+    write_word(bytes, 8, q.z.cast_unsigned());
 }
 
 // Moves one row of 32 bytes.
@@ -84,12 +73,8 @@ pub fn move_rows(table: &mut [u8], by: Pos)
     requires { (length table.old ≡ rows table.old * 32) × (on_ground by table.old ≡ true) }
     ensures { table.new ≡ moved_table by table.old }
 {
-    let n = row::rows(table);
-    let mut i = 0;
-    while i < n {
+    for i in 0..row::rows(table) {
         let start = i * row::WIDTH;
-        let end = start + row::WIDTH;
-        move_row(&mut table[start..end], by);
-        i += 1;
+        move_row(&mut table[start..start + row::WIDTH], by);
     }
 }

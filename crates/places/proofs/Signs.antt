@@ -1,14 +1,20 @@
 -- Laws of signed numbers that the proofs here and above cite. Assumes nothing.
-use mathlib.Core.Path.{◌≡◌, refl, sym, ap}
-use mathlib.Core.Bool.{Bool, true, false, cond}
+use mathlib.Core.Path.{◌≡◌, refl}
+use mathlib.Core.Bool.{Bool, true, false, cond, and_assoc}
 use Prim.Native.Nat.{ℕ, suc, ◌-◌, ◌<◌, ◌≤◌}
 use native.Mathlib.Omega.{arith}
-use lib.Dec.{ltb, eqb}
-use borrow.Author.Tests.{ltb-false, lt-ltb, ne_eqb, eq-eqb, eqb-true, eqb-false}
-use Rattle.places.specs.Signed.{eq_z}
+use lib.Dec.{ltb}
+use borrow.Author.Tests.{lt-ltb}
+use Rattle.std.specs.Int.{saturate_signed, cast_signed}
+use Rattle.std.specs.declared.cmp.Ordering.TheVariants.{Less, Equal, Greater}
+use Rattle.std.specs.Ordering.{is_eq, int_eq, int_cmp, is_lt, is_some_and, partial_lt, partial_ordering_then}
+use Rattle.std.proofs.Common.{Option, Some, Ordering, ◌||◌, ◌&&◌}
+use Rattle.places.specs.declared.Pos.{Pos}
+use Rattle.places.specs.Signed.{eq_z, signed32, signed8, clamp32}
+use Rattle.places.specs.Places.{same_pos, before}
 use lib.IntN.{ℤ, pos, negsuc, ◌+ℤ◌, ◌-ℤ◌, sub_ℕ}
 use lib.Signed.{mag, lt_z}
-use mir.Syntax.{w32, w64}
+use mir.Syntax.{w8, w32, w64}
 use mir.Val.{SFits, to_z, of_z}
 use mir.ValLaws.{to_z-of_z}
 
@@ -37,31 +43,50 @@ sum_fits (negsuc m) (pos n) f g =
     record { sfits = sub_mag n (suc m) _ (omega (arith, g.sfits)) (omega (arith, f.sfits)) }
 sum_fits (negsuc m) (negsuc n) f g = record { sfits = omega (arith, f.sfits, g.sfits) }
 
--- between the two ends is within signed 32 bits
-pub between : (z : ℤ) → lt_z (pos 2147483647) z ≡ false → lt_z z (negsuc 2147483647) ≡ false → SFits w32 z
-between (pos m) p q = record { sfits = omega (arith, ltb-false 2147483647 m p) }
-between (negsuc m) p q = record { sfits = omega (arith, ltb-false 2147483647 m q) }
+-- a number's bits, read as a signed number
+pub signed32_is : (n : ℕ) → cast_signed w32 n ≡ signed32 n
+unfolding signed32
+signed32_is n = grind arith
 
-differ : (m n : ℕ) → m < 2147483648 → n < 2147483648 → m ≡ 4294967296 - suc n → ⊥
-differ m n p q e = omega arith
+pub signed8_is : (n : ℕ) → cast_signed w8 n ≡ signed8 n
+unfolding signed8
+signed8_is n = grind arith
 
--- a test of the numbers that are taken from one number
-taken_from : (m n : ℕ) → m < 2147483648 → n < 2147483648 → eqb (4294967296 - suc m) (4294967296 - suc n) ≡ eqb m n
-taken_from m n p q = by (eqb m n) refl
+-- what the library's saturating sum stops at
+pub saturate_is : (z : ℤ) → saturate_signed w32 z ≡ clamp32 z
+unfolding clamp32
+saturate_is (pos n) = grind arith
+saturate_is (negsuc n) = grind arith
+
+int_eq_is : (a b : ℤ) → int_eq a b ≡ eq_z a b
+int_eq_is (pos m) (pos n) = grind arith
+int_eq_is (pos m) (negsuc n) = refl
+int_eq_is (negsuc m) (pos n) = refl
+int_eq_is (negsuc m) (negsuc n) = grind arith
+
+-- the derived order of two positions, coordinate by coordinate
+first_lt : (a b : ℤ) (o : Option Ordering) → is_some_and is_lt (partial_ordering_then (Some (int_cmp a b)) o) ≡ (lt_z a b || (eq_z a b && is_some_and is_lt o))
+first_lt a b o = rw (← int_eq_is a b) (go (lt_z a b) (lt_z b a))
   where
-    by : (t : Bool) → eqb m n ≡ t → eqb (4294967296 - suc m) (4294967296 - suc n) ≡ t
-    by true e = eq-eqb _ _ (ap (λ (k : ℕ). 4294967296 - suc k) (eqb-true m n e))
-    by false e = ne_eqb _ _ (λ (h : 4294967296 - suc m ≡ 4294967296 - suc n). eqb-false m n e (omega arith))
+    go : (l g : Bool) → is_some_and is_lt (partial_ordering_then (Some (cond l Less (cond g Greater Equal))) o) ≡ (l || (is_eq (cond l Less (cond g Greater Equal)) && is_some_and is_lt o))
+    go true g = refl
+    go false true = refl
+    go false false = refl
 
--- two numbers have the same bits just where they are equal
-pub same_bits : (a b : ℤ) → SFits w32 a → SFits w32 b → eqb (of_z w32 a) (of_z w32 b) ≡ eq_z a b
-same_bits (pos m) (pos n) f g = refl
-same_bits (pos m) (negsuc n) f g = ne_eqb _ _ (differ m n f.sfits g.sfits)
-same_bits (negsuc m) (pos n) f g = ne_eqb _ _ (λ (e : 4294967296 - suc m ≡ n). differ n m g.sfits f.sfits (sym e))
-same_bits (negsuc m) (negsuc n) f g = taken_from m n f.sfits g.sfits
+last_lt : (a b : ℤ) → is_lt (int_cmp a b) ≡ lt_z a b
+last_lt a b = go (lt_z a b) (lt_z b a)
+  where
+    go : (l g : Bool) → is_lt (cond l Less (cond g Greater Equal)) ≡ l
+    go true g = refl
+    go false true = refl
+    go false false = refl
 
--- a number less a larger one
-pub less_than_none : (n m : ℕ) → n ≤ m → pos n -ℤ pos (suc m) ≡ negsuc (m - n)
-less_than_none n m h =
-    let e : suc m - suc n ≡ m - n = omega arith in
-    rw (lt-ltb n (suc m) (omega arith), e)
+pub before_is : (p q : Pos)
+    → partial_lt (λ (a b : Pos). partial_ordering_then (Some (int_cmp a.x b.x)) (partial_ordering_then (Some (int_cmp a.y b.y)) (Some (int_cmp a.z b.z)))) p q ≡ before p q
+unfolding before
+before_is p q = simp (first_lt, last_lt)
+
+-- the derived test of two positions
+pub same_is : (p q : Pos) → (int_eq p.x q.x && (int_eq p.y q.y && int_eq p.z q.z)) ≡ same_pos p q
+unfolding same_pos
+same_is p q = simp (int_eq_is, and_assoc)

@@ -1,11 +1,9 @@
 -- Positions and facings. A facing is its number in byte 13: "0 missing, 1 North, 2 East, 3 South, 4 West, 5 Up, 6 Down".
 -- Assumes nothing.
-use Rattle.std.specs.Prelude.{Bool, false, cond, ◌&&◌, ◌||◌, List, [], ◌∷◌, ℕ, eqb, leb, ℤ}
+use Rattle.std.specs.Prelude.{Bool, false, cond, ◌&&◌, ◌||◌, List, [], ◌∷◌, ℕ, eqb, leb, ℤ, Option, Some, None}
 use Rattle.std.specs.Int.Signed.{lt_z}
 use Rattle.places.specs.Signed.{minus_one, zero_z, one, sat_add, eq_z}
 use Rattle.places.specs.declared.Pos.{Pos}
-use Rattle.places.specs.declared.Place.{Place}
-use Rattle.places.specs.declared.Place.TheVariants.{There, Nowhere}
 
 abbrev pub North : ℕ
 North = 1
@@ -62,8 +60,8 @@ abbrev pub is_horizontal : ℕ → Bool
 is_horizontal f = leb North f && leb f West
 
 -- `Facing::horizontal_offset`: "missing, Up or Down facing gives none"
-unfoldable pub horizontal_offset : ℕ → Place
-horizontal_offset f = cond (is_horizontal f) (There (step f)) Nowhere
+unfoldable pub horizontal_offset : ℕ → Option Pos
+horizontal_offset f = cond (is_horizontal f) (Some (step f)) None
 
 -- the position beside q along a horizontal facing
 unfoldable pub beside : Pos → ℕ → Pos
@@ -89,6 +87,6 @@ unfoldable pub adjacent : Pos → Pos → Bool
 adjacent p q = is_among (neighbours p) q
 
 -- the place is the position q
-abbrev pub is_at : Place → Pos → Bool
-is_at (There p) q = same_pos p q
-is_at Nowhere q = false
+abbrev pub is_at : Option Pos → Pos → Bool
+is_at (Some p) q = same_pos p q
+is_at None q = false

@@ -2,37 +2,15 @@
 #![tactic(auto)]
 
 ghost use Rattle.std.specs.Prelude.{◌≡◌, ℤ};
-ghost use Rattle.places.specs.Signed.{sat_add};
 ghost use Rattle.places.specs.Places.{cell, same_pos, before, opposite, horizontal_offset, beside, above, below};
 ghost use Rattle.places.specs.Places.{offset as moved};
 
-// The sum of two coordinates, stopped at the ends of signed 32 bits.
-fn sat_add(a: i32, d: i32) -> i32
-    ensures { result ≡ sat_add a d }
-{
-    let wide = (a as i64) + (d as i64);
-    if wide > 2147483647 {
-        return 2147483647;
-    }
-    if wide < -2147483648 {
-        return -2147483648;
-    }
-    wide as i32
-}
-
-// A block's position.
-#[derive(Clone, Copy)]
+// A block's position. Positions are in the table's order: by x, then y, then z.
+#[derive(Clone, Copy, PartialEq, Eq, PartialOrd, Ord)]
 pub struct Pos {
     pub x: i32,
     pub y: i32,
     pub z: i32,
-}
-
-// A position, or none: `Option<Pos>`.
-#[derive(Clone, Copy)]
-pub enum Place {
-    There(Pos),
-    Nowhere,
 }
 
 impl Pos {
@@ -47,32 +25,30 @@ impl Pos {
         ensures { result ≡ moved self dx dy dz }
     {
         Self {
-            x: sat_add(self.x, dx),
-            y: sat_add(self.y, dy),
-            z: sat_add(self.z, dz),
+            x: self.x.saturating_add(dx),
+            y: self.y.saturating_add(dy),
+            z: self.z.saturating_add(dz),
         }
     }
 
     pub fn same(self, other: Pos) -> bool
         ensures { result ≡ same_pos self other }
     {
-        (self.x == other.x) & (self.y == other.y) & (self.z == other.z)
+        self == other
     }
 
-    // Whether this position stands earlier in the table's order: by x, then y, then z.
+    // Whether this position stands earlier in the table's order.
     pub fn before(self, other: Pos) -> bool
         ensures { result ≡ before self other }
     {
-        (self.x < other.x)
-            | ((self.x == other.x)
-                & ((self.y < other.y) | ((self.y == other.y) & (self.z < other.z))))
+        self < other
     }
 
     // The cell beside along a horizontal facing; this one along any other.
     pub fn beside(self, facing: Facing) -> Self
         ensures { result ≡ beside self facing.code }
     {
-        let Place::There(step) = facing.horizontal_offset() else {
+        let Some(step) = facing.horizontal_offset() else {
             return self.offset(0, 0, 0);
         };
         self.offset(step.x, 0, step.z)
@@ -91,7 +67,7 @@ impl Pos {
     }
 }
 
-// A facing, by its number in byte 13 of a row; 0 where it is missing.
+// A facing, by its number in byte 13 of a row; 0 where it is missing. In a table that is not accepted it may be any.
 #[derive(Clone, Copy)]
 pub struct Facing {
     pub code: u8,
@@ -110,6 +86,7 @@ impl Facing {
 
     pub const DOWN: u8 = 6;
 
+    #[tactic(auto, unfolding(crate::specs::Places::opposite))]
     pub fn opposite(self) -> Self
         ensures { result.code ≡ opposite self.code }
     {
@@ -127,16 +104,17 @@ impl Facing {
     }
 
     // The step of one cell along this facing; none where it is missing, Up or Down.
-    pub fn horizontal_offset(self) -> Place
+    #[tactic(auto, unfolding(crate::specs::Places::horizontal_offset, crate::specs::Places::step))]
+    pub fn horizontal_offset(self) -> Option<Pos>
         ensures { result ≡ horizontal_offset self.code }
     {
         let code = self.code;
         match code {
-            1 => Place::There(Pos::new(0, 0, -1)),
-            2 => Place::There(Pos::new(1, 0, 0)),
-            3 => Place::There(Pos::new(0, 0, 1)),
-            4 => Place::There(Pos::new(-1, 0, 0)),
-            _ => Place::Nowhere,
+            1 => Some(Pos::new(0, 0, -1)),
+            2 => Some(Pos::new(1, 0, 0)),
+            3 => Some(Pos::new(0, 0, 1)),
+            4 => Some(Pos::new(-1, 0, 0)),
+            _ => None,
         }
     }
 }

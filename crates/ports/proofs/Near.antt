@@ -1,5 +1,6 @@
 -- Laws of what the entries of the rows by each row find.
 -- Assumes nothing.
+use Rattle.std.proofs.Common.{Option, Some, None}
 use mathlib.Core.Path.{◌≡◌, refl, sym, ◌∙◌}
 use mathlib.Core.Bool.{Bool, true, false, true≢false}
 use Prim.Native.Nat.{ℕ, ◌+◌, ◌*◌, ◌≤◌, ◌<◌}
@@ -12,8 +13,7 @@ use Rattle.columns.specs.declared.Found.{Found}
 use Rattle.columns.specs.declared.Found.TheVariants.{At, Nothing}
 use Rattle.columns.specs.Column.{Bytes, Column, row}
 use Rattle.columns.specs.First.{on_found}
-use Rattle.places.specs.declared.Place.{Place}
-use Rattle.places.specs.declared.Place.TheVariants.{There, Nowhere}
+use Rattle.places.specs.declared.Pos.{Pos}
 use Rattle.places.specs.Places.{same_pos, is_at}
 use Rattle.places.proofs.Order.{same_pos_true, same_pos_refl}
 use Rattle.world.specs.Rows.{rows, pos_of}
@@ -28,9 +28,9 @@ use Rattle.adjacency.proofs.Beside.{near_at, near_long}
 use Rattle.ports.specs.Ports.{Prepared, Inside, found_in}
 
 -- what the look-up finds is a row of the table
-pub found_inside : (t : Bytes) (p : Place) → Inside t (find_at t p)
-found_inside t Nowhere = tt
-found_inside t (There q) = go (find t q) refl
+pub found_inside : (t : Bytes) (p : Option Pos) → Inside t (find_at t p)
+found_inside t None = tt
+found_inside t (Some q) = go (find t q) refl
   where
     go : (f : Found) → find t q ≡ f → Inside t f
     go (At j) e = (found_stands t q j e).0
@@ -57,9 +57,9 @@ module _ {t : Bytes} {near : Column} {i : ℕ} (h : Prepared t near i) (k : ℕ)
 
 -- a row stands at a place exactly where it is found there
 module _ (t : Bytes) (table : Table t) (i : ℕ) (inside : i < rows t) where
-  pub stands_found : (p : Place) → is_at p (pos_of t i) ≡ on_found (λ k. eqb k i) false (find_at t p)
-  stands_found Nowhere = refl
-  stands_found (There q) = go (same_pos q (pos_of t i)) refl (find t q) refl
+  pub stands_found : (p : Option Pos) → is_at p (pos_of t i) ≡ on_found (λ k. eqb k i) false (find_at t p)
+  stands_found None = refl
+  stands_found (Some q) = go (same_pos q (pos_of t i)) refl (find t q) refl
     where
       go : (b : Bool) → same_pos q (pos_of t i) ≡ b → (f : Found) → find t q ≡ f → b ≡ on_found (λ k. eqb k i) false f
       go true e f g = rw (sym g ∙ find-at t table q i inside (sym (same_pos_true q (pos_of t i) e)), eq-eqb i i refl)

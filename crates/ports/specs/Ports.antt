@@ -1,10 +1,10 @@
 -- The rows at a device's ports: what a look-up of them requires, and the two sides, one by one.
 -- Assumes nothing.
-use Rattle.std.specs.Prelude.{◌≡◌, cond, ◌||◌, ℕ, ◌<◌, eqb}
+use Rattle.std.specs.Prelude.{◌≡◌, cond, ◌||◌, ℕ, ◌<◌, eqb, Option}
 use Rattle.columns.specs.declared.Found.{Found}
 use Rattle.columns.specs.declared.Found.TheVariants.{At, Nothing}
 use Rattle.columns.specs.Column.{Bytes, Column}
-use Rattle.places.specs.declared.Place.{Place}
+use Rattle.places.specs.declared.Pos.{Pos}
 use Rattle.places.specs.Places.{North, East, South, West, opposite}
 use Rattle.world.specs.Rows.{rows, pos_of, facing_of}
 use Rattle.refusals.specs.Accepted.{Table}
@@ -32,8 +32,8 @@ unfoldable pub sideward : ℕ → ℕ
 sideward f = cond (eqb f North || eqb f South) East (cond (eqb f East || eqb f West) North 0)
 
 -- the two sides of row i, whatever its kind: `by_sides` says that they are those of `sides_of`
-unfoldable pub first_side : Bytes → ℕ → Place
+unfoldable pub first_side : Bytes → ℕ → Option Pos
 first_side t i = ahead (pos_of t i) (sideward (facing_of t i))
 
-unfoldable pub second_side : Bytes → ℕ → Place
+unfoldable pub second_side : Bytes → ℕ → Option Pos
 second_side t i = ahead (pos_of t i) (opposite (sideward (facing_of t i)))

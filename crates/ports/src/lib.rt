@@ -2,7 +2,7 @@
 #![tactic(auto)]
 
 ghost use Rattle.std.specs.Prelude.{◌≡◌, ◌<◌};
-ghost use Rattle.world.specs.Rows.{pos_of, support_of};
+ghost use Rattle.world.specs.Rows.{rows, pos_of, support_of};
 ghost use Rattle.world.specs.Find.{find_at};
 ghost use Rattle.connectivity.specs.Ports.{ahead, output_of, input_of};
 ghost use Rattle.classes.specs.Towards.{places};
@@ -23,54 +23,11 @@ fn found_in(entry: u16) -> Found
     if entry == NO_ROW {
         return Found::Nothing;
     }
-    Found::At(entry as usize)
-}
-
-// The row at a place by a row.
-fn row_by(table: &[u8], near: &[u16], row: usize, place: usize) -> Found
-    requires { Prepared table.now near.now row × (place < places) }
-    ensures { result ≡ find_at table.now (place_by table.now row place) }
-{
-    found_in(near[place * world::row::rows(table) + row])
-}
-
-// The row beside a row along a horizontal facing; none along any other.
-fn row_ahead(table: &[u8], near: &[u16], row: usize, facing: Facing) -> Found
-    requires { Prepared table.now near.now row }
-    ensures { result ≡ find_at table.now (ahead (pos_of table.now row) facing.code) }
-{
-    let code = facing.code;
-    if code < Facing::NORTH {
-        return Found::Nothing;
-    }
-    if Facing::WEST < code {
-        return Found::Nothing;
-    }
-    row_by(table, near, row, (code - Facing::NORTH) as usize)
-}
-
-pub fn output_row(table: &[u8], near: &[u16], row: usize) -> Found
-    requires { Prepared table.now near.now row }
-    ensures { result ≡ find_at table.now (output_of table.now row) }
-{
-    let facing = Facing {
-        code: facing_of(table, row),
-    };
-    row_ahead(table, near, row, facing)
-}
-
-pub fn input_row(table: &[u8], near: &[u16], row: usize) -> Found
-    requires { Prepared table.now near.now row }
-    ensures { result ≡ find_at table.now (input_of table.now row) }
-{
-    let facing = Facing {
-        code: facing_of(table, row),
-    };
-    let back = facing.opposite();
-    row_ahead(table, near, row, back)
+    Found::At(usize::from(entry))
 }
 
 // East where a block faces North or South, North where it faces East or West.
+#[tactic(auto, unfolding(crate::specs::Ports::sideward))]
 fn sideward(facing: u8) -> Facing
     ensures { result.code ≡ sideward facing }
 {
@@ -83,25 +40,74 @@ fn sideward(facing: u8) -> Facing
     }
 }
 
-pub fn first_side_row(table: &[u8], near: &[u16], row: usize) -> Found
-    requires { Prepared table.now near.now row }
-    ensures { result ≡ find_at table.now (first_side table.now row) }
-{
-    row_ahead(table, near, row, sideward(facing_of(table, row)))
+// A row of an accepted table, with the rows that were found by each row.
+#[derive(Clone, Copy)]
+pub struct PreparedRow<'a> {
+    pub table: &'a [u8],
+    pub near: &'a [u16],
+    pub row: usize,
+    pub ghost prepared: { Prepared table.now near.now row },
 }
 
-pub fn second_side_row(table: &[u8], near: &[u16], row: usize) -> Found
-    requires { Prepared table.now near.now row }
-    ensures { result ≡ find_at table.now (second_side table.now row) }
-{
-    let first = sideward(facing_of(table, row));
-    let second = first.opposite();
-    row_ahead(table, near, row, second)
-}
+impl<'a> PreparedRow<'a> {
+    // The row at a place by the row.
+    fn row_by(self, place: usize) -> Found
+        requires { place < places }
+        ensures { result ≡ find_at self.entry.table.now (place_by self.entry.table.now self.entry.row place) }
+    {
+        found_in(self.near[place * world::row::rows(self.table) + self.row])
+    }
 
-pub fn support_row(table: &[u8], near: &[u16], row: usize) -> Found
-    requires { Prepared table.now near.now row }
-    ensures { result ≡ find_at table.now (support_of table.now row) }
-{
-    row_by(table, near, row, SUPPORT)
+    // The row beside the row along a horizontal facing; none along any other.
+    #[tactic(auto, unfolding(connectivity::specs::Ports::ahead, adjacency::specs::Adjacency::place_by))]
+    fn row_ahead(self, facing: Facing) -> Found
+        ensures { result ≡ find_at self.entry.table.now (ahead (pos_of self.entry.table.now self.entry.row) facing.code) }
+    {
+        match facing.code {
+            Facing::NORTH..=Facing::WEST => self.row_by(usize::from(facing.code - Facing::NORTH)),
+            _ => Found::Nothing,
+        }
+    }
+
+    #[tactic(auto, unfolding(connectivity::specs::Ports::output_of))]
+    pub fn output_row(self) -> Found
+        ensures { result ≡ find_at self.entry.table.now (output_of self.entry.table.now self.entry.row) }
+    {
+        let facing = Facing {
+            code: facing_of(self.table, self.row),
+        };
+        self.row_ahead(facing)
+    }
+
+    #[tactic(auto, unfolding(connectivity::specs::Ports::input_of))]
+    pub fn input_row(self) -> Found
+        ensures { result ≡ find_at self.entry.table.now (input_of self.entry.table.now self.entry.row) }
+    {
+        let facing = Facing {
+            code: facing_of(self.table, self.row),
+        };
+        let back = facing.opposite();
+        self.row_ahead(back)
+    }
+
+    #[tactic(auto, unfolding(crate::specs::Ports::first_side))]
+    pub fn first_side_row(self) -> Found
+        ensures { result ≡ find_at self.entry.table.now (first_side self.entry.table.now self.entry.row) }
+    {
+        self.row_ahead(sideward(facing_of(self.table, self.row)))
+    }
+
+    #[tactic(auto, unfolding(crate::specs::Ports::second_side))]
+    pub fn second_side_row(self) -> Found
+        ensures { result ≡ find_at self.entry.table.now (second_side self.entry.table.now self.entry.row) }
+    {
+        self.row_ahead(sideward(facing_of(self.table, self.row)).opposite())
+    }
+
+    #[tactic(auto, unfolding(adjacency::specs::Adjacency::place_by))]
+    pub fn support_row(self) -> Found
+        ensures { result ≡ find_at self.entry.table.now (support_of self.entry.table.now self.entry.row) }
+    {
+        self.row_by(SUPPORT)
+    }
 }

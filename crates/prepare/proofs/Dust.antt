@@ -1,5 +1,6 @@
 -- Laws: the edges that lead to dust from its neighbours, of a table's columns and of the table.
 -- Assumes nothing.
+use Rattle.std.proofs.Common.{Some, None}
 use mathlib.Core.Path.{◌≡◌, refl, ap, sym, ◌∙◌}
 use mathlib.Core.Bool.{Bool, true, false, cond, not, ◌&&◌, ◌||◌, false≢true, and-true, and_assoc, and_comm}
 use Prim.Native.Nat.{ℕ, ◌+◌, ◌-◌, ◌<◌}
@@ -9,7 +10,6 @@ use borrow.Author.Tests.{eqb-true, eq-eqb, leb-true, le-leb, ltb-true, lt-ltb}
 use Rattle.columns.specs.Column.{Bytes}
 use Rattle.columns.proofs.Truth.{and_true as both}
 use Rattle.blocks.specs.Kind.{is_dust, is_source, is_diode}
-use Rattle.places.specs.declared.Place.TheVariants.{There, Nowhere}
 use Rattle.places.specs.Places.{opposite, is_horizontal, step, beside, is_at}
 use Rattle.places.proofs.Steps.{down, level, up}
 use Rattle.world.specs.Rows.{rows, pos_of, kind_of, facing_of}
@@ -50,7 +50,7 @@ module _ (p t : Bytes) (table : Table t) (j i : ℕ) (hj : j < rows t) (hi : i <
           let few = ltb-true k 4 beside in
           rw (eqb-true f (k + 1) along, le-leb 1 (k + 1) (omega arith), le-leb (k + 1) 4 (omega (arith, few))) (rw beside at stands)
 
-      back : (b : Bool) → is_horizontal f ≡ b → is_at (cond b (There (beside (pos_of t j) f)) Nowhere) (pos_of t i) ≡ true
+      back : (b : Bool) → is_horizontal f ≡ b → is_at (cond b (Some (beside (pos_of t j) f)) None) (pos_of t i) ≡ true
           → (is_beside k && eqb f (k + 1)) ≡ true
       back true h e =
           let (low, high) = both (leb 1 f) (leb f 4) h in

@@ -1,5 +1,6 @@
 -- Laws: the entries of a table's two columns. An entry of `near` is the row i where row i stands at that place, and only there.
 -- Assumes nothing.
+use Rattle.std.proofs.Common.{Option, Some, None}
 use mathlib.Core.Path.{◌≡◌, refl, sym, ◌∙◌}
 use mathlib.Core.Bool.{Bool, true, false, ◌&&◌, true≢false, and-true, and-false}
 use mathlib.Core.Logic.{by_cases}
@@ -16,8 +17,6 @@ use Rattle.columns.specs.declared.Found.TheVariants.{At, Nothing}
 use Rattle.columns.proofs.Columns.{length_tabulate, row_tabulate}
 use Rattle.columns.proofs.Truth.{refuted}
 use Rattle.places.specs.declared.Pos.{Pos}
-use Rattle.places.specs.declared.Place.{Place}
-use Rattle.places.specs.declared.Place.TheVariants.{There, Nowhere}
 use Rattle.places.specs.Places.{same_pos, is_at}
 use Rattle.places.proofs.Order.{same_pos_true, same_pos_refl}
 use Rattle.world.specs.Rows.{rows, pos_of}
@@ -83,9 +82,9 @@ module _ (t : Bytes) (table : Table t) (i : ℕ) (inside : i < rows t) where
       go (At j) f e = rw (← eqb-true j i e, (found_stands t q j f).1) (same_pos_refl q)
       go Nothing f e = absurd (true≢false (sym e ∙ no-row))
 
-  pub is_row : (x : Place) → eqb (or_no_row (find_at t x)) i ≡ is_at x (pos_of t i)
-  is_row (There q) = found_row q
-  is_row Nowhere = no-row
+  pub is_row : (x : Option Pos) → eqb (or_no_row (find_at t x)) i ≡ is_at x (pos_of t i)
+  is_row (Some q) = found_row q
+  is_row None = no-row
 
   -- the row that an edge leads to is i where it is the row i at the place, and has the edge
   pub is_sink : (test : ℕ → Bool) (x : ℕ) → eqb (sink_if (test x) x) i ≡ (eqb x i && test i)

@@ -1,5 +1,6 @@
 -- Laws of the places by an accepted position: from each the opposite step leads back, and no other place is one along a horizontal facing.
 -- Assumes nothing.
+use Rattle.std.proofs.Common.{Some}
 use mathlib.Core.Path.{◌≡◌, refl, ap, sym, ◌∙◌}
 use mathlib.Core.Bool.{Bool, true, not, cond, ◌&&◌, ◌||◌}
 use mathlib.Core.List.{Memᴰ}
@@ -14,7 +15,6 @@ use Rattle.columns.specs.Column.{Bytes}
 use Rattle.columns.specs.First.{all_below}
 use Rattle.columns.proofs.First.{all_at}
 use Rattle.places.specs.declared.Pos.{Pos}
-use Rattle.places.specs.declared.Place.TheVariants.{There}
 use Rattle.places.specs.Signed.{zero_z, one, minus_one, sat_add}
 use Rattle.places.specs.Places.{horizontals, offset, opposite, step, beside, below, same_pos}
 use Rattle.places.proofs.Order.{same_pos_true, same_pos_refl}
@@ -97,8 +97,8 @@ module _ (q r : Pos) (inside : InRange q) where
       omega (arith, eqb-true (k + 1) (f + 1) (rw (eq-eqb _ _ x, eq-eqb _ _ z) at known))
 
 -- the six places by row j, each as one step
-pub place_step : (t : Bytes) (j k : ℕ) → k < 6 → place_by t j k ≡ There (sideways (pos_of t j) (k + 1) (height k))
+pub place_step : (t : Bytes) (j k : ℕ) → k < 6 → place_by t j k ≡ Some (sideways (pos_of t j) (k + 1) (height k))
 unfolding place_by beside step
 place_step t j =
-    let P : ℕ → Type 0 = λ k. place_by t j k ≡ There (sideways (pos_of t j) (k + 1) (height k)) in
+    let P : ℕ → Type 0 = λ k. place_by t j k ≡ Some (sideways (pos_of t j) (k + 1) (height k)) in
     below_more P 5 (below_more P 4 (below_more P 3 (below_more P 2 (below_more P 1 (below_more P 0 (below_none P) refl) refl) refl) refl) refl) refl

@@ -1,5 +1,6 @@
 -- Laws: the edges along which dust transmits to dust, of a table's columns and of the table.
 -- Assumes nothing.
+use Rattle.std.proofs.Common.{Option, None}
 use mathlib.Core.Path.{◌≡◌, refl, ap, sym, ◌∙◌}
 use mathlib.Core.Bool.{Bool, true, false, cond, ◌&&◌, ◌||◌, and-false, and_assoc}
 use mathlib.Core.List.{Memᴰ}
@@ -23,7 +24,6 @@ use Rattle.refusals.specs.Accepted.{Table}
 use Rattle.refusals.proofs.Accepted.{in-range}
 use Rattle.arms.specs.Arms.{arm_of}
 use Rattle.wire.specs.declared.transfer.DustTransfer.{DustTransfer}
-use Rattle.wire.specs.declared.transfer.DustTransfer.TheVariants.{NoTransfer}
 use Rattle.wire.specs.Transfer.{fits_horizontal, fits_rise, fits_fall, rule_along, first_rule, transfer_by, is_transfer, transmits_by, transmits}
 use Rattle.wire.proofs.Any.{along_any, first_any}
 use Rattle.edges.proofs.Networks.{and_same}
@@ -54,7 +54,7 @@ twelve d h r f = simp sorted
 
 -- ---- a transfer between dusts is by some rule along some facing
 
-transfers_both : (d : Bool) (x : DustTransfer) → is_transfer (cond d x NoTransfer) ≡ (d && is_transfer x)
+transfers_both : (d : Bool) (x : Option DustTransfer) → is_transfer (cond d x None) ≡ (d && is_transfer x)
 transfers_both true x = refl
 transfers_both false x = refl
 

@@ -17,10 +17,7 @@ fn bit(value: u32, set: bool) -> u32
 fn rise_bits(rise: u8) -> u32
     ensures { (result ≡ rise - 1) × (result < 256) }
 {
-    if 0 < rise {
-        return (rise - 1) as u32;
-    }
-    0
+    rise.saturating_sub(1) as u32
 }
 
 fn trait_bits(traits: BlockRedstoneTraits) -> u32
@@ -39,10 +36,11 @@ fn armless(profile: &[u8], table: &[u8], row: usize) -> u32
             + (kind_of(table, row) as u32 * 256 + facing_of(table, row) as u32 * 65536))
 }
 
+#[tactic(auto, using(columns::proofs::Columns::fills))]
 pub fn fill_armless(profile: &[u8], table: &[u8], out: &mut [u32])
     ensures { out.new ≡ tabulate (length out.old) (armless profile.now table.now) }
 {
-    for i in 0..out.len() {
-        out[i] = armless(profile, table, i);
+    for (i, class) in out.iter_mut().enumerate() {
+        *class = armless(profile, table, i);
     }
 }

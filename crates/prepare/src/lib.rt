@@ -11,6 +11,7 @@ ghost use Rattle.prepare.specs.Classes.{classes_of};
 use crate::class::fill_armless;
 use crate::dust_arms::fill_arms;
 use adjacency::fill_near;
+use circuit::Network;
 use world::row::rows;
 
 mod class;
@@ -23,7 +24,14 @@ fn fill_classes(profile: &[u8], table: &[u8], near: &[u16], armless: &mut [u32],
     ensures { class.new ≡ classes_of profile.now table.now }
 {
     fill_armless(profile, table, armless);
-    fill_arms(table, near, armless, class);
+    fill_arms(
+        table,
+        Network {
+            near,
+            class: armless,
+        },
+        class,
+    );
 }
 
 // Fills both columns.

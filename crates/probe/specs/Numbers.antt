@@ -1,16 +1,12 @@
 -- The numbers by which the probe's calls answer what the inner functions answer as enums, structs and bools.
 -- Assumes nothing.
-use Rattle.std.specs.Prelude.{Bool, cond, ℕ, ◌+◌, ◌*◌, eqb, leb, ℤ, pos}
+use Rattle.std.specs.Prelude.{Bool, cond, ℕ, ◌+◌, ◌*◌, eqb, leb, ℤ, pos, Option, Some, None}
 use Rattle.columns.specs.declared.Found.{Found}
 use Rattle.columns.specs.declared.Found.TheVariants.{At, Nothing}
 use Rattle.columns.specs.Column.{Bytes}
 use Rattle.blocks.specs.declared.BlockProperties.{BlockProperties}
 use Rattle.blocks.specs.Profile.{properties_of}
 use Rattle.places.specs.declared.Pos.{Pos}
-use Rattle.places.specs.declared.Place.{Place}
-use Rattle.places.specs.declared.Place.TheVariants.{There, Nowhere}
-use Rattle.connectivity.specs.declared.Sides.{Sides}
-use Rattle.connectivity.specs.declared.Sides.TheVariants.{Both, Neither}
 use Rattle.connectivity.specs.Ports.{repeater_input_pos, repeater_output_pos, comparator_input_pos, comparator_output_pos, device_side_positions}
 use Rattle.traits.specs.declared.BlockRedstoneTraits.{BlockRedstoneTraits}
 
@@ -42,24 +38,24 @@ unfoldable pub coordinate : Pos → ℕ → ℤ
 coordinate q axis = cond (eqb axis 0) q.x (cond (eqb axis 1) q.y q.z)
 
 -- the coordinate, or 2 where there is no position
-abbrev pub place_coordinate : Place → ℕ → ℤ
-place_coordinate (There q) axis = coordinate q axis
-place_coordinate Nowhere axis = pos 2
+abbrev pub place_coordinate : Option Pos → ℕ → ℤ
+place_coordinate (Some q) axis = coordinate q axis
+place_coordinate None axis = pos 2
 
 -- a number above 6 is no facing
 abbrev pub known_facing : ℕ → ℕ
 known_facing n = cond (leb n 6) n 0
 
-abbrev pub is_there : Place → ℕ
-is_there (There q) = 1
-is_there Nowhere = 0
+abbrev pub is_there : Option Pos → ℕ
+is_there (Some q) = 1
+is_there None = 0
 
-abbrev pub side_of : Sides → Bool → Place
-side_of (Both a b) first = cond first (There a) (There b)
-side_of Neither first = Nowhere
+abbrev pub side_of : Option (Pos × Pos) → Bool → Option Pos
+side_of (Some (a, b)) first = cond first (Some a) (Some b)
+side_of None first = None
 
 -- the position functions by number
-unfoldable pub port_of : Bytes → Pos → ℕ → Place
+unfoldable pub port_of : Bytes → Pos → ℕ → Option Pos
 port_of t q which =
     cond (eqb which 0) (repeater_input_pos t q)
     (cond (eqb which 1) (repeater_output_pos t q)

@@ -24,7 +24,10 @@ use places::Pos;
 pub fn probe_check(profile: &[u8], table: &[u8]) -> u32
     ensures { result ≡ answer_of (check_input profile.now table.now) 0 }
 {
-    refusals::answer(refusals::check_input(profile, table), 0)
+    match refusals::check_input(profile, table) {
+        Ok(()) => 0,
+        Err(refused) => refused.answer(),
+    }
 }
 
 pub fn probe_find(table: &[u8], x: i32, y: i32, z: i32) -> u64
@@ -36,7 +39,7 @@ pub fn probe_find(table: &[u8], x: i32, y: i32, z: i32) -> u64
 pub fn probe_kind_at(table: &[u8], x: i32, y: i32, z: i32) -> u32
     ensures { result ≡ kind_at table.now (cell x y z) }
 {
-    reader::kind_at(table, Pos::new(x, y, z)) as u32
+    u32::from(reader::kind_at(table, Pos::new(x, y, z)))
 }
 
 pub fn probe_properties(profile: &[u8], kind: u32) -> u32
@@ -57,7 +60,7 @@ pub fn probe_traits(profile: &[u8], table: &[u8], row: u64) -> u32
 pub fn probe_shape_of_name(name: &[u8], slab_type: &[u8], half: &[u8]) -> u32
     ensures { result ≡ shape_of_name name.now slab_type.now half.now }
 {
-    names::shape_of_name(name, slab_type, half) as u32
+    u32::from(names::shape_of_name(name, slab_type, half))
 }
 
 pub fn probe_support_issues(profile: &[u8], table: &[u8], column: &mut [u16]) -> u32
@@ -75,7 +78,7 @@ pub fn probe_offset(x: i32, y: i32, z: i32, dx: i32, dy: i32, dz: i32, axis: u32
 pub fn probe_opposite(facing: u32) -> u32
     ensures { result ≡ opposite (known_facing facing) }
 {
-    numbers::facing_of(facing).opposite().code as u32
+    u32::from(numbers::facing_of(facing).opposite().code)
 }
 
 pub fn probe_horizontal_offset(facing: u32, axis: u32) -> i32
@@ -108,14 +111,14 @@ pub fn probe_infer(profile: &[u8], table: &[u8], x: i32, y: i32, z: i32, facing:
     ensures { result ≡ infer_wire_connection profile.now table.now (cell x y z) (known_facing facing) }
 {
     let code = numbers::facing_of(facing).code;
-    arms::infer_wire_connection(profile, table, Pos::new(x, y, z), code) as u32
+    u32::from(arms::infer_wire_connection(profile, table, Pos::new(x, y, z), code))
 }
 
 pub fn probe_resolved(profile: &[u8], table: &[u8], x: i32, y: i32, z: i32, facing: u32) -> u32
     ensures { result ≡ resolved_wire_connection profile.now table.now (cell x y z) (known_facing facing) }
 {
     let code = numbers::facing_of(facing).code;
-    arms::resolved_wire_connection(profile, table, Pos::new(x, y, z), code) as u32
+    u32::from(arms::resolved_wire_connection(profile, table, Pos::new(x, y, z), code))
 }
 
 pub fn probe_transfer(

@@ -5,8 +5,7 @@ ghost use Rattle.probe.specs.Numbers.{row_number, bit, properties_number, traits
 
 use blocks::BlockProperties;
 use columns::Found;
-use connectivity::Sides;
-use places::{Facing, Place, Pos};
+use places::{Facing, Pos};
 use traits::BlockRedstoneTraits;
 use wire::transfer::DustTransfer;
 
@@ -35,12 +34,6 @@ pub fn properties_number(r: BlockProperties) -> u32
         + bit(r.strong_power_drives_dust, 16)
 }
 
-fn wide(b: u8) -> u32
-    ensures { (result ≡ b) × (result ≤ 255) }
-{
-    b as u32
-}
-
 pub fn traits_number(r: BlockRedstoneTraits) -> u32
     ensures { result ≡ traits_number r }
 {
@@ -49,7 +42,7 @@ pub fn traits_number(r: BlockRedstoneTraits) -> u32
         + bit(r.strong, 4)
         + bit(r.drives, 8)
         + bit(r.blocks, 16)
-        + wide(r.rise) * 32
+        + u32::from(r.rise) * 32
 }
 
 pub fn coordinate(q: Pos, axis: u32) -> i32
@@ -62,12 +55,12 @@ pub fn coordinate(q: Pos, axis: u32) -> i32
     }
 }
 
-pub fn place_coordinate(place: Place, axis: u32) -> i32
+pub fn place_coordinate(place: Option<Pos>, axis: u32) -> i32
     ensures { result ≡ place_coordinate place axis }
 {
     match place {
-        Place::There(q) => coordinate(q, axis),
-        Place::Nowhere => 2,
+        Some(q) => coordinate(q, axis),
+        None => 2,
     }
 }
 
@@ -81,29 +74,26 @@ pub fn facing_of(number: u32) -> Facing
     Facing { code: number as u8 }
 }
 
-pub fn is_there(place: Place) -> u32
+pub fn is_there(place: Option<Pos>) -> u32
     ensures { result ≡ is_there place }
 {
-    match place {
-        Place::There(_) => 1,
-        Place::Nowhere => 0,
-    }
+    u32::from(place.is_some())
 }
 
 // The first or the second of the sides.
-fn side_of(sides: Sides, first: bool) -> Place
+fn side_of(sides: Option<(Pos, Pos)>, first: bool) -> Option<Pos>
     ensures { result ≡ side_of sides first }
 {
-    let Sides::Both(a, b) = sides else {
-        return Place::Nowhere;
+    let Some((a, b)) = sides else {
+        return None;
     };
     if first {
-        return Place::There(a);
+        return Some(a);
     }
-    Place::There(b)
+    Some(b)
 }
 
-pub fn port_of(table: &[u8], pos: Pos, which: u32) -> Place
+pub fn port_of(table: &[u8], pos: Pos, which: u32) -> Option<Pos>
     ensures { result ≡ port_of table.now pos which }
 {
     match which {
@@ -116,13 +106,13 @@ pub fn port_of(table: &[u8], pos: Pos, which: u32) -> Place
     }
 }
 
-pub fn transfer_number(transfer: DustTransfer) -> u32
+pub fn transfer_number(transfer: Option<DustTransfer>) -> u32
     ensures { result ≡ transfer_number transfer }
 {
     match transfer {
-        DustTransfer::NoTransfer => 0,
-        DustTransfer::Horizontal => 1,
-        DustTransfer::Rise => 2,
-        DustTransfer::FallThroughConductor => 3,
+        None => 0,
+        Some(DustTransfer::Horizontal) => 1,
+        Some(DustTransfer::Rise) => 2,
+        Some(DustTransfer::FallThroughConductor) => 3,
     }
 }

@@ -34,10 +34,8 @@ fn parts_from(s: &[u8], slices: u8) -> usize
     ensures { result ≡ parts_from s.now slices }
 {
     let mut at = 2;
-    let mut k = 0;
-    while k < slices {
+    for _ in 0..slices {
         at = at + 2 + (half(from(s, at)) as usize);
-        k += 1;
     }
     at
 }
@@ -98,10 +96,7 @@ pub fn copied(s: &[u8]) -> [u8; MOST_BYTES]
     ensures { result ≡ copied s.now }
 {
     let mut a = [0u8; MOST_BYTES];
-    let mut i = 0;
-    while i < MOST_BYTES {
-        a[i] = byte_at(s, i);
-        i += 1;
-    }
+    let n = s.len().min(MOST_BYTES);
+    a[..n].copy_from_slice(&s[..n]);
     a
 }

@@ -11,21 +11,19 @@ use arms::infer_wire_connection;
 use blocks::kind;
 use places::{Facing, Pos};
 use redrawing::Arms;
-use refusals::Checked;
 use traits::{ARM_NONE, ARM_SIDE};
 use world::row;
 
 // The inferred arm, or no entry where it is None.
+#[tactic(auto, unfolding(redrawing::specs::Drawn::entry_of))]
 fn entry_of(profile: &[u8], table: &[u8], pos: Pos, facing: u8) -> u8
     ensures { result ≡ entry_of profile.now table.now pos facing }
 {
     let arm = infer_wire_connection(profile, table, pos, facing);
-    if arm == ARM_NONE {
-        return 0;
-    }
-    arm
+    if arm == ARM_NONE { 0 } else { arm }
 }
 
+#[tactic(auto, unfolding(redrawing::specs::Drawn::entries_of))]
 fn entries_of(profile: &[u8], table: &[u8], row: usize) -> Arms
     ensures { result ≡ entries_of profile.now table.now row }
 {
@@ -42,7 +40,7 @@ fn entries_of(profile: &[u8], table: &[u8], row: usize) -> Arms
 fn counted(entry: u8) -> u8
     ensures { (result ≡ counted entry) × (result ≤ 1) }
 {
-    if entry == 0 { 0 } else { 1 }
+    u8::from(entry != 0)
 }
 
 // Whether exactly one entry is left.
@@ -56,12 +54,10 @@ fn is_alone(arms: Arms) -> bool
 fn added(alone: bool, back: u8, own: u8) -> u8
     ensures { result ≡ added alone back own }
 {
-    if alone & (back != 0) {
-        return ARM_SIDE;
-    }
-    own
+    if alone && back != 0 { ARM_SIDE } else { own }
 }
 
+#[tactic(auto, unfolding(redrawing::specs::Drawn::with_opposite))]
 fn with_opposite(arms: Arms) -> Arms
     ensures { result ≡ with_opposite arms }
 {
@@ -75,41 +71,36 @@ fn with_opposite(arms: Arms) -> Arms
 }
 
 // Writes the arms into the 32 bytes of a row.
+#[tactic(auto, unfolding(redrawing::specs::Drawn::drawn))]
 fn draw(row: &mut [u8], arms: Arms)
     requires { length row.old ≡ 32 }
     ensures { row.new ≡ drawn row.old arms }
 {
     row[23] = 1;
-    row[24] = arms.north;
-    row[25] = arms.east;
-    row[26] = arms.south;
-    row[27] = arms.west;
+    row[24..28].copy_from_slice(&[arms.north, arms.east, arms.south, arms.west]);
 }
 
 // Draws one row anew, if it is dust.
+#[tactic(auto, unfolding(redrawing::specs::Drawn::redrawn_row))]
 fn redraw_row(profile: &[u8], table: &mut [u8], row: usize)
     requires { row * 32 + 32 ≤ length table.old }
     ensures { table.new ≡ put_mid (row * 32) 32 table.old (redrawn_row profile.now table.old row) }
 {
-    if row::kind_of(table, row) != kind::REDSTONE_WIRE {
-        return;
+    if row::kind_of(table, row) == kind::REDSTONE_WIRE {
+        let arms = with_opposite(entries_of(profile, table, row));
+        let start = row * row::WIDTH;
+        draw(&mut table[start..start + row::WIDTH], arms);
     }
-    let arms = with_opposite(entries_of(profile, table, row));
-    let start = row * row::WIDTH;
-    let end = start + row::WIDTH;
-    draw(&mut table[start..end], arms);
 }
 
 // Row after row in place: inference reads no byte that is written here, so each row is drawn as from the table that came.
+#[tactic(auto, unfolding(redrawing::specs::Drawn::update_wire_shapes))]
 fn redraw(profile: &[u8], table: &mut [u8])
     requires { length table.old ≡ rows table.old * 32 }
     ensures { table.new ≡ update_wire_shapes profile.now table.old }
 {
-    let n = row::rows(table);
-    let mut i = 0;
-    while i < n {
+    for i in 0..row::rows(table) {
         redraw_row(profile, table, i);
-        i += 1;
     }
 }
 
@@ -117,9 +108,8 @@ fn redraw(profile: &[u8], table: &mut [u8])
 pub fn update_wire_shapes(profile: &[u8], table: &mut [u8]) -> u32
     ensures { Redraws profile.now table.old table.new result }
 {
-    let checked = refusals::check_input(profile, table);
-    if let Checked::Refused { number: _, row: _ } = checked {
-        return refusals::answer(checked, 0);
+    if let Err(refused) = refusals::check_input(profile, table) {
+        return refused.answer();
     }
     redraw(profile, table);
     0

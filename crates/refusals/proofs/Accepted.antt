@@ -20,10 +20,9 @@ use Rattle.columns.proofs.Truth.{and_true}
 use Rattle.world.specs.Rows.{rows, pos_of, kind_of}
 use Rattle.world.specs.Find.{find, InOrder}
 use Rattle.world.proofs.Finding.{find_first}
-use Rattle.refusals.specs.declared.Checked.TheVariants.{Accepted}
 use Rattle.layout.specs.Good.{good_profile, good_row}
 use Rattle.refusals.specs.Accepted.{Table}
-use Rattle.refusals.specs.Check.{is_bad, is_misplaced, is_overdriven, check_rows, check_table, check_input, IsAccepted}
+use Rattle.refusals.specs.Check.{accepted, is_bad, is_misplaced, is_overdriven, check_rows, check_table, check_input, IsAccepted}
 use Rattle.refusals.proofs.Passed.{passed_unless, unless_passes, passed_rows, rows_pass}
 use Rattle.layout.proofs.Fields.{Place, good-field, good_range}
 
@@ -33,7 +32,7 @@ use Rattle.layout.proofs.Fields.{Place, good-field, good_range}
 abbrev pub OfKinds : ℕ → Bytes → Type 0
 OfKinds kinds t = (i : ℕ) → i < rows t → kind_of t i < kinds
 
-accepted_rows : (kinds : ℕ) (t : Bytes) → check_table kinds t ≡ Accepted → Table t × OfKinds kinds t
+accepted_rows : (kinds : ℕ) (t : Bytes) → check_table kinds t ≡ accepted → Table t × OfKinds kinds t
 unfolding check_table check_rows
 accepted_rows kinds t h =
     let (a, g) = passed_unless 2 (eqb (length t % 32) 0) _ h in
@@ -53,10 +52,10 @@ accepted_rows kinds t h =
       λ i l. ltb-true _ _ (both i l).1,
     )
 
-pub accepted_table : (kinds : ℕ) (t : Bytes) → check_table kinds t ≡ Accepted → Table t
+pub accepted_table : (kinds : ℕ) (t : Bytes) → check_table kinds t ≡ accepted → Table t
 accepted_table kinds t h = (accepted_rows kinds t h).0
 
-pub accepted_of_kinds : (kinds : ℕ) (t : Bytes) → check_table kinds t ≡ Accepted → OfKinds kinds t
+pub accepted_of_kinds : (kinds : ℕ) (t : Bytes) → check_table kinds t ≡ accepted → OfKinds kinds t
 accepted_of_kinds kinds t h = (accepted_rows kinds t h).1
 
 -- no row of it is overdriven
@@ -65,21 +64,21 @@ not_driven t a i l =
     by_cases (ℕ_discrete (kind_of t i) Comparator) (λ k. rw (k, le-ltb _ _ (a.low i l k))) (λ n. rw (ne_eqb (kind_of t i) Comparator n))
 
 -- and a table that is so is accepted
-pub table_accepted : (kinds : ℕ) (t : Bytes) → Table t → OfKinds kinds t → check_table kinds t ≡ Accepted
+pub table_accepted : (kinds : ℕ) (t : Bytes) → Table t → OfKinds kinds t → check_table kinds t ≡ accepted
 unfolding check_table check_rows
 table_accepted kinds t a k =
     unless_passes 2 (eqb (length t % 32) 0) _ (eq-eqb (length t % 32) 0 (omega (arith, a.whole)))
     (unless_passes 3 (leb (rows t) 1024) _ (le-leb _ 1024 a.few)
     (rows_pass 4 0 (is_bad kinds t) (rows t) _ (λ i l. rw (a.good i l, lt-ltb _ kinds (k i l)))
     (rows_pass 5 1 (is_misplaced t) (rows t - 1) _ (λ i l. ap not (a.ordered i (omega arith)))
-    (rows_pass 10 0 (is_overdriven t) (rows t) Accepted (not_driven t a) refl))))
+    (rows_pass 10 0 (is_overdriven t) (rows t) accepted (not_driven t a) refl))))
 
 -- of a call with the profile
-pub accepted_kinds : (p t : Bytes) → check_input p t ≡ Accepted → OfKinds (length p) t
+pub accepted_kinds : (p t : Bytes) → check_input p t ≡ accepted → OfKinds (length p) t
 unfolding check_input
 accepted_kinds p t h = accepted_of_kinds (length p) t (passed_unless 1 (good_profile p) _ h).1
 
-pub accepted_input : (p t : Bytes) → check_input p t ≡ Accepted → (good_profile p ≡ true) × Table t
+pub accepted_input : (p t : Bytes) → check_input p t ≡ accepted → (good_profile p ≡ true) × Table t
 unfolding check_input
 accepted_input p t h = let (a, b) = passed_unless 1 (good_profile p) _ h in (a, accepted_table (length p) t b)
 

@@ -21,19 +21,18 @@ use Rattle.world.specs.Rows.{rows, kind_of}
 use Rattle.layout.specs.Good.{good_profile, good_row}
 use Rattle.layout.proofs.Fields.{Kind, good-field}
 use Rattle.layout.proofs.Profiles.{other_length, good_with_bulb}
-use Rattle.refusals.specs.declared.Checked.TheVariants.{Accepted, Refused}
-use Rattle.refusals.specs.Check.{is_bad, check_rows, check_table, check_input, IsAccepted}
+use Rattle.refusals.specs.Check.{accepted, refused, is_bad, check_rows, check_table, check_input, IsAccepted}
 use Rattle.refusals.proofs.Accepted.{accepted_input, accepted_kinds, table_accepted}
 
 -- "with 13 a bulb row is number 4": where it is the first bad row
 pub bulb_refused : (p t : Bytes) (i : ℕ) → good_profile p ≡ true → length p ≡ 13 → length t % 32 ≡ 0 → rows t ≤ 1024 → i < rows t
-    → kind_of t i ≡ CopperBulb → ((j : ℕ) → j < i → is_bad 13 t j ≡ false) → check_input p t ≡ Refused 4 i
+    → kind_of t i ≡ CopperBulb → ((j : ℕ) → j < i → is_bad 13 t j ≡ false) → check_input p t ≡ refused 4 i
 unfolding check_input check_table check_rows
 bulb_refused p t i good long whole few l bulb earlier =
     let bad : is_bad 13 t i ≡ true = rw (bulb, and-false (good_row t i)) refl in
     let first : first_from (is_bad 13 t) (rows t) 0 ≡ At i =
     at_first (is_bad 13 t) (rows t) 0 i (record { from = zero-le; inside = omega arith; holds = bad; earlier = λ j _ m. earlier j m }) in
-    rw (good, eq-eqb (length t % 32) 0 whole, le-leb (rows t) 1024 few, long, first) (ap (Refused 4) (add-zero i))
+    rw (good, eq-eqb (length t % 32) 0 whole, le-leb (rows t) 1024 few, long, first) (ap (refused 4) (add-zero i))
 
 module _ (p t : Bytes) (long : length p ≡ 13) where
   -- a table that is accepted with 13 bytes has no bulb, in its rows or past them
@@ -78,7 +77,7 @@ most_14 p g =
     (λ m. by_cases (ℕ_discrete (length p) 14) (λ e. omega arith) (λ n. absurd (true≢false (sym g ∙ other_length p m n))))
 
 -- and a table that is accepted by whatever profile passes the tests
-pub accepted_14 : (p t : Bytes) → IsAccepted p t → check_table 14 t ≡ Accepted
+pub accepted_14 : (p t : Bytes) → IsAccepted p t → check_table 14 t ≡ accepted
 accepted_14 p t h =
     let (good, table) = accepted_input p t h in
     table_accepted 14 t table (λ i l. omega (arith, accepted_kinds p t h i l, most_14 p good))

@@ -1,5 +1,6 @@
 -- Laws of the refusals that a check gives, test by test, and those of a profile and a table.
 -- Assumes nothing.
+use Rattle.std.proofs.Common.{Ok, Err}
 use mathlib.Core.Path.{◌≡◌, refl, sym, ◌∙◌}
 use mathlib.Core.Logic.{⊎_elim}
 use mathlib.Core.Bool.{Bool, true, false, ◌&&◌, true≢false}
@@ -17,28 +18,26 @@ use Rattle.columns.proofs.First.{first_at}
 use Rattle.columns.proofs.Truth.{and_true, or_true}
 use Rattle.blocks.specs.Kind.{one_of}
 use Rattle.world.specs.Rows.{rows}
-use Rattle.refusals.specs.declared.Checked.{Checked}
-use Rattle.refusals.specs.declared.Checked.TheVariants.{Accepted, Refused}
 use Rattle.layout.specs.Good.{good_profile}
-use Rattle.refusals.specs.Check.{refuse_row_unless, refuse_unless, refuse_at, or_else, also, is_bad, is_misplaced, is_overdriven, is_overdriven_device, check_rows, check_table, check_input, check_values}
+use Rattle.refusals.specs.Check.{Checked, accepted, refused, refuse_row_unless, refuse_unless, refuse_at, or_else, also, is_bad, is_misplaced, is_overdriven, is_overdriven_device, check_rows, check_table, check_input, check_values}
 use Rattle.refusals.specs.Answers.{Gives, of_table, of_input}
-use Rattle.refusals.proofs.Passed.{never}
+use Rattle.refusals.proofs.Passed.{same_number, same_row, never}
 
 -- ---- test by test
 
-pub accepted_gives : {ns : List ℕ} → Gives ns Accepted
+pub accepted_gives : {ns : List ℕ} → Gives ns accepted
 accepted_gives = record { number = λ n i e. never (sym e); row = λ n i e. never (sym e) }
 
-pub or_gives : {ns : List ℕ} {c : Checked} (next : Checked) → Gives ns c → (c ≡ Accepted → Gives ns next) → Gives ns (or_else c next)
-or_gives {c = Accepted} next g h = h refl
-or_gives {c = Refused n i} next g h = g
+pub or_gives : {ns : List ℕ} {c : Checked} (next : Checked) → Gives ns c → (c ≡ accepted → Gives ns next) → Gives ns (or_else c next)
+or_gives {c = Ok _} next g h = h refl
+or_gives {c = Err fault} next g h = g
 
 module _ {ns : List ℕ} (n : ℕ) (h : one_of ns n ≡ true) where
-  pub refused_gives : (i : ℕ) → i < 65536 → Gives ns (Refused n i)
+  pub refused_gives : (i : ℕ) → i < 65536 → Gives ns (refused n i)
   refused_gives i l =
       record {
-        number = λ m j e. let same : n ≡ m = cc in rw same at h;
-        row = λ m j e. let same : i ≡ j = cc in omega arith;
+        number = λ m j e. let same : n ≡ m = same_number e in rw same at h;
+        row = λ m j e. let same : i ≡ j = same_row e in omega arith;
       }
 
   pub row_unless_gives : (i : ℕ) → i < 65536 → (b : Bool) (next : Checked) → (b ≡ true → Gives ns next) → Gives ns (refuse_row_unless n i b next)
@@ -49,7 +48,7 @@ module _ {ns : List ℕ} (n : ℕ) (h : one_of ns n ≡ true) where
   unless_gives = row_unless_gives 0 (omega arith)
 
   pub also_gives : {c : Checked} (b : Bool) → Gives ns c → Gives ns (also c n b)
-  also_gives b g = or_gives _ g (λ _. unless_gives b Accepted (λ _. accepted_gives))
+  also_gives b g = or_gives _ g (λ _. unless_gives b accepted (λ _. accepted_gives))
 
   -- the row is one of k, and d more
   pub first_gives : (f : ℕ → Bool) (k d : ℕ) (next : Checked) → k + d ≤ 65536 → Gives ns next → Gives ns (refuse_at n d (first_from f k 0) next)
@@ -76,7 +75,7 @@ pub wider_gives : {ns ms : List ℕ} {c : Checked} → within ns ms ≡ true →
 wider_gives {ns} {ms} w g = record { number = λ n i e. within_one ns ms w n (g.number n i e); row = g.row }
 
 -- a number that is none of them is not given
-pub not_given : {ns : List ℕ} {c : Checked} → Gives ns c → (n i : ℕ) → one_of ns n ≡ false → ¬ (c ≡ Refused n i)
+pub not_given : {ns : List ℕ} {c : Checked} → Gives ns c → (n i : ℕ) → one_of ns n ≡ false → ¬ (c ≡ refused n i)
 not_given g n i h e = true≢false (sym (g.number n i e) ∙ h)
 
 -- ---- the numbers of a table, and of a profile and a table

@@ -1,7 +1,7 @@
 -- Which refusal falls on a call, and what the call answers and writes then. What stands in quotation marks is document 01's, or document 02's, Changes
 -- 4 and 5.
 -- Assumes nothing.
-use Rattle.std.specs.Prelude.{◌≡◌, Bool, true, false, not, ◌&&◌, ℕ, ◌+◌, ◌*◌, ◌-◌, ◌%◌, ◌<◌, length, eqb, leb, ltb}
+use Rattle.std.specs.Prelude.{◌≡◌, Bool, true, false, not, ◌&&◌, Result, Ok, Err, ℕ, ◌+◌, ◌*◌, ◌-◌, ◌%◌, ◌<◌, length, eqb, leb, ltb}
 use Rattle.columns.specs.declared.Found.{Found}
 use Rattle.columns.specs.declared.Found.TheVariants.{At, Nothing}
 use Rattle.columns.specs.Column.{Bytes}
@@ -10,16 +10,27 @@ use Rattle.columns.specs.Signal.{max_signal}
 use Rattle.blocks.specs.Kind.{Comparator}
 use Rattle.places.specs.Places.{before}
 use Rattle.world.specs.Rows.{rows, pos_of, kind_of, level_or}
-use Rattle.refusals.specs.declared.Checked.{Checked}
-use Rattle.refusals.specs.declared.Checked.TheVariants.{Accepted, Refused}
+use Rattle.refusals.specs.declared.Refused.{Refused}
 use Rattle.layout.specs.Good.{good_profile, good_row}
+
+-- ---- what falls on a call
+
+-- what a call's inputs are checked to: nothing falls on them, or a refusal of a number, at a row
+abbrev pub Checked : Type 0
+Checked = Result (Unit {0}) Refused
+
+abbrev pub accepted : Checked
+accepted = Ok tt
+
+abbrev pub refused : ℕ → ℕ → Checked
+refused n i = Err (record { number = n; row = i })
 
 -- ---- one test after the other
 
 -- the refusal of row i where the test fails, or what comes next
 abbrev pub refuse_row_unless : ℕ → ℕ → Bool → Checked → Checked
 refuse_row_unless n i true next = next
-refuse_row_unless n i false next = Refused n i
+refuse_row_unless n i false next = refused n i
 
 -- the refusal, row 0, where the test fails, or what comes next
 abbrev pub refuse_unless : ℕ → Bool → Checked → Checked
@@ -27,7 +38,7 @@ refuse_unless n passed next = refuse_row_unless n 0 passed next
 
 -- the refusal at the row found, d rows on, or what comes next
 abbrev pub refuse_at : ℕ → ℕ → Found → Checked → Checked
-refuse_at n d (At i) next = Refused n (i + d)
+refuse_at n d (At i) next = refused n (i + d)
 refuse_at n d Nothing next = next
 
 -- the number of that row fits 16 bits
@@ -37,12 +48,12 @@ RowFits d Nothing = Unit {0}
 
 -- the first refusal, or what comes next
 abbrev pub or_else : Checked → Checked → Checked
-or_else Accepted next = next
-or_else (Refused n i) next = Refused n i
+or_else (Ok _) next = next
+or_else (Err e) next = Err e
 
 -- the first refusal, or the refusal where one more test fails
 abbrev pub also : Checked → ℕ → Bool → Checked
-also c n passed = or_else c (refuse_unless n passed Accepted)
+also c n passed = or_else c (refuse_unless n passed accepted)
 
 -- ---- the tests of a profile and a table
 
@@ -63,7 +74,7 @@ is_overdriven t i = eqb (kind_of t i) Comparator && ltb max_signal (level_or t i
 unfoldable pub check_rows : ℕ → Bytes → Checked
 check_rows kinds t =
     refuse_at 4 0 (first_from (is_bad kinds t) (rows t) 0)
-    (refuse_at 5 1 (first_from (is_misplaced t) (rows t - 1) 0) (refuse_at 10 0 (first_from (is_overdriven t) (rows t) 0) Accepted))
+    (refuse_at 5 1 (first_from (is_misplaced t) (rows t - 1) 0) (refuse_at 10 0 (first_from (is_overdriven t) (rows t) 0) accepted))
 
 -- 2 ragged: "table length not a multiple of 32"; 3 crowded: "more than 1,024 rows"
 unfoldable pub check_table : ℕ → Bytes → Checked
@@ -75,7 +86,7 @@ check_input p t = refuse_unless 1 (good_profile p) (check_table (length p) t)
 
 -- "A table is accepted if no refusal falls on it or on the profile the call has"
 abbrev pub IsAccepted : Bytes → Bytes → Type 0
-IsAccepted p t = check_input p t ≡ Accepted
+IsAccepted p t = check_input p t ≡ accepted
 
 -- 10 overdriven, of a device byte for each row: "Device bytes above 15 are turned away"
 abbrev pub is_overdriven_device : (ℕ → ℕ) → ℕ → Bool
@@ -83,7 +94,7 @@ is_overdriven_device device i = ltb max_signal (device i)
 
 -- of n rows
 abbrev pub check_overdriven : (ℕ → ℕ) → ℕ → Checked
-check_overdriven device n = refuse_at 10 0 (first_from (is_overdriven_device device) n 0) Accepted
+check_overdriven device n = refuse_at 10 0 (first_from (is_overdriven_device device) n 0) accepted
 
 -- 6 bad state, of a device column or a state of n rows: "wrong length or value"; "in 6 length before value"; 10 "on a column or state just
 -- after 6"
@@ -94,10 +105,10 @@ check_values sized isBadValue device n = refuse_unless 6 sized (refuse_at 6 0 (f
 
 -- "65,536 times the number plus the row", or the answer of a call that is not refused
 abbrev pub answer_of : Checked → ℕ → ℕ
-answer_of Accepted done = done
-answer_of (Refused n i) done = 65536 * n + i
+answer_of (Ok _) done = done
+answer_of (Err e) done = 65536 * e.number + e.row
 
 -- what a buffer holds after a call: a refused call writes no byte
 abbrev pub written : {A : Type 0} → Checked → A → A → A
-written Accepted old new = new
-written (Refused n i) old new = old
+written (Ok _) old new = new
+written (Err e) old new = old

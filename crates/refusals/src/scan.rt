@@ -4,25 +4,16 @@ ghost use Rattle.columns.specs.First.{first_from};
 ghost use Rattle.refusals.specs.Check.{is_bad, is_misplaced, is_overdriven, is_overdriven_device};
 
 use crate::row::{is_bad, is_misplaced, is_overdriven};
-use columns::{Found, byte_at};
+use columns::{Found, byte_at, first_index};
 use levels::signal::Signal;
-use world::row::WIDTH;
+use world::row::row_in;
 
 // The first row outside the layout, or of a kind that is none of so many.
 pub fn first_bad(kinds: usize, table: &[u8], rows: usize) -> Found
     requires { rows * 32 ≤ length table.now }
     ensures { result ≡ first_from (is_bad kinds table.now) rows 0 }
 {
-    let mut i = 0;
-    while i < rows {
-        let start = i * WIDTH;
-        let end = start + WIDTH;
-        if is_bad(kinds, &table[start..end]) {
-            return Found::At(i);
-        }
-        i += 1;
-    }
-    Found::Nothing
+    first_index(rows, |i| is_bad(kinds, row_in(table, i)))
 }
 
 // The first row whose next row does not come after it.
@@ -30,17 +21,10 @@ pub fn first_misplaced(table: &[u8], rows: usize) -> Found
     requires { rows * 32 ≤ length table.now }
     ensures { result ≡ first_from (is_misplaced table.now) (rows - 1) 0 }
 {
-    let mut i = 0;
-    while i + 1 < rows {
-        let start = i * WIDTH;
-        let middle = start + WIDTH;
-        let end = middle + WIDTH;
-        if is_misplaced(&table[start..middle], &table[middle..end]) {
-            return Found::At(i);
-        }
-        i += 1;
-    }
-    Found::Nothing
+    first_index(
+        rows.saturating_sub(1),
+        |i| is_misplaced(row_in(table, i), row_in(table, i + 1)),
+    )
 }
 
 // The first comparator whose given level is above 15.
@@ -48,16 +32,7 @@ pub fn first_overdriven(table: &[u8], rows: usize) -> Found
     requires { rows * 32 ≤ length table.now }
     ensures { result ≡ first_from (is_overdriven table.now) rows 0 }
 {
-    let mut i = 0;
-    while i < rows {
-        let start = i * WIDTH;
-        let end = start + WIDTH;
-        if is_overdriven(&table[start..end]) {
-            return Found::At(i);
-        }
-        i += 1;
-    }
-    Found::Nothing
+    first_index(rows, |i| is_overdriven(row_in(table, i)))
 }
 
 // The first row whose device byte, the first of so many bytes of the row, is above 15.
@@ -65,12 +40,5 @@ pub fn first_overdriven_device(bytes: &[u8], width: usize, rows: usize) -> Found
     requires { length bytes.now ≡ rows * width }
     ensures { result ≡ first_from (is_overdriven_device (λ i. get_or bytes.now (i * width) 0)) rows 0 }
 {
-    let mut i = 0;
-    while i < rows {
-        if Signal::MAX < byte_at(bytes, i * width) {
-            return Found::At(i);
-        }
-        i += 1;
-    }
-    Found::Nothing
+    first_index(rows, |i| Signal::MAX < byte_at(bytes, i * width))
 }

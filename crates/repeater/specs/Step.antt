@@ -1,14 +1,12 @@
 -- What a tick does to the sixteen bytes of a repeater: of row i, with the old device column d and the old settled numbers s.
 -- Assumes nothing.
-use Rattle.std.specs.Prelude.{Bool, false, cond, not, ◌&&◌, ◌||◌, ℕ, ◌+◌, ◌*◌, ◌-◌, ◌/◌, ◌%◌, ◌^◌, set, eqb}
+use Rattle.std.specs.Prelude.{Bool, false, cond, not, ◌&&◌, ◌||◌, ℕ, ◌+◌, ◌*◌, ◌-◌, ◌/◌, ◌%◌, ◌^◌, set, eqb, Option, Some, None}
 use Rattle.columns.specs.Column.{Bytes, Column, row}
 use Rattle.columns.specs.First.{on_found}
 use Rattle.blocks.specs.Profile.{reads_block_power}
 use Rattle.places.specs.declared.Pos.{Pos}
 use Rattle.world.specs.Rows.{kind_of}
 use Rattle.world.specs.Find.{find, find_at}
-use Rattle.connectivity.specs.declared.Sides.{Sides}
-use Rattle.connectivity.specs.declared.Sides.TheVariants.{Both, Neither}
 use Rattle.connectivity.specs.Ports.{input_of, sides_of}
 use Rattle.edges.specs.Edges.{outputs_to}
 use Rattle.states.specs.Row.{queue_of, delay_of}
@@ -31,9 +29,9 @@ module _ (t : Bytes) (d : Column) (i : ℕ) where
   unfoldable pub locks_from : Pos → Bool
   locks_from q = on_found locks false (find t q)
 
-  abbrev pub locked_by : Sides → Bool
-  locked_by (Both a b) = locks_from a || locks_from b
-  locked_by Neither = false
+  abbrev pub locked_by : Option (Pos × Pos) → Bool
+  locked_by (Some (a, b)) = locks_from a || locks_from b
+  locked_by None = false
 
   -- "while a side repeater or comparator that outputs into it is on, it is locked"
   unfoldable pub is_locked : Bool

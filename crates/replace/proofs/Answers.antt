@@ -1,5 +1,6 @@
 -- Which refusals a replacement gives, what its answer tells, and what it leaves of a list that was the table's.
 -- Assumes nothing.
+use Rattle.std.proofs.Common.{Ok, Err}
 use mathlib.Core.Path.{◌≡◌, refl, ap, sym, ◌∙◌}
 use mathlib.Core.Bool.{not}
 use mathlib.Core.List.{List}
@@ -8,9 +9,7 @@ use native.Mathlib.Omega.{arith}
 use lib.ListN.{length}
 use Rattle.columns.specs.Column.{Bytes}
 use Rattle.world.specs.Rows.{rows}
-use Rattle.refusals.specs.declared.Checked.{Checked}
-use Rattle.refusals.specs.declared.Checked.TheVariants.{Accepted, Refused}
-use Rattle.refusals.specs.Check.{is_overdriven, IsAccepted, answer_of, written}
+use Rattle.refusals.specs.Check.{Checked, accepted, is_overdriven, IsAccepted, answer_of, written}
 use Rattle.refusals.specs.Answers.{of_input, Gives, Tells}
 use Rattle.refusals.proofs.Accepted.{accepted_input}
 use Rattle.refusals.proofs.Gives.{accepted_gives, or_gives, row_unless_gives, also_gives, wider_gives, input_gives}
@@ -29,7 +28,7 @@ module _ (p t : Bytes) (n : ℕ) (fits : n < 65536) (new : Bytes) where
   new_gives =
       row_unless_gives 4 refl n fits (is_good_new (length p) new) _ λ _.
       row_unless_gives 5 refl n fits (stands_at_row t n new) _ λ _.
-      row_unless_gives 10 refl n fits (not (is_overdriven new 0)) Accepted λ _. accepted_gives
+      row_unless_gives 10 refl n fits (not (is_overdriven new 0)) accepted λ _. accepted_gives
 
   -- of a row number of 16 bits
   pub replace_gives : (count : ℕ) → Gives of_replace (check_replace p t n new count)
@@ -51,7 +50,7 @@ module _ (p t : Bytes) (n : ℕ) (new : Bytes) (list : List ℕ) {t' : Bytes} {l
       (λ e is. (is, omega (arith, few e, is), rw e at c.bytes, rw e at c.entries))
       (λ m i e. (rw e at c.bytes, rw e at c.entries))
     where
-      few : checked ≡ Accepted → rows t ≤ 1024
+      few : checked ≡ accepted → rows t ≤ 1024
       few e = (accepted_input p t (given p t n new (length list) e).input).1.few
 
   -- the table that is left is accepted where the one handed in was
@@ -59,19 +58,19 @@ module _ (p t : Bytes) (n : ℕ) (new : Bytes) (list : List ℕ) {t' : Bytes} {l
   leaves_accepted h = go checked refl
     where
       go : (x : Checked) → checked ≡ x → IsAccepted p t'
-      go Accepted e = rw (rw e at c.bytes) (given p t n new (length list) e).new_input
-      go (Refused m i) e = rw (rw e at c.bytes) h
+      go (Ok _) e = rw (rw e at c.bytes) (given p t n new (length list) e).new_input
+      go (Err fault) e = rw (rw e at c.bytes) h
 
   -- "If the list handed in was the old table's under this profile, the result must equal a list built afresh": also of a refused call, which leaves both
   pub keeps_list : list ≡ feeder_list p t → list' ≡ feeder_list p t'
   keeps_list same = go checked refl
     where
       go : (x : Checked) → checked ≡ x → list' ≡ feeder_list p t'
-      go Accepted e =
+      go (Ok _) e =
           let g = given p t n new (length list) e in
           rw (rw e at c.bytes)
           (rw e at c.entries ∙ ap (updated_list p (replaced t n new) n) same ∙ updated_afresh p (accepted_input p t g.input).1 g.replaceable)
-      go (Refused m i) e = rw (rw e at c.bytes) (rw e at c.entries ∙ same)
+      go (Err fault) e = rw (rw e at c.bytes) (rw e at c.entries ∙ same)
 
 -- the contents of the list are not tested: another list of that length makes no difference to the answer or to the table
 pub contents_untested : (p t : Bytes) (n : ℕ) (new : Bytes) (list other : List ℕ) {t' t'' : Bytes} {list' other' : List ℕ} {r s : ℕ}

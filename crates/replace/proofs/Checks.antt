@@ -15,9 +15,8 @@ use Rattle.places.specs.Places.{same_pos}
 use Rattle.places.proofs.Order.{same_pos_true, same_pos_refl}
 use Rattle.world.specs.Rows.{rows, pos_of, kind_of}
 use Rattle.layout.proofs.Fields.{level_again, good_same}
-use Rattle.refusals.specs.declared.Checked.TheVariants.{Accepted, Refused}
 use Rattle.refusals.specs.Accepted.{Table}
-use Rattle.refusals.specs.Check.{or_else, is_bad, is_misplaced, is_overdriven, check_rows, check_table, check_input, IsAccepted}
+use Rattle.refusals.specs.Check.{accepted, refused, or_else, is_bad, is_misplaced, is_overdriven, check_rows, check_table, check_input, IsAccepted}
 use Rattle.refusals.proofs.Accepted.{accepted_input, accepted_kinds, not_driven}
 use Rattle.refusals.proofs.Passed.{refuse_only, passed_both, passed_unless, passed_row_unless}
 use Rattle.feeding.specs.Feeders.{is_list_length}
@@ -87,7 +86,7 @@ module _ (p t : Bytes) (n : ℕ) (new : Bytes) (count : ℕ) where
     pub new_input : IsAccepted p (replaced t n new)
     pub list_long : count ≡ rows t * 12
 
-  new_replaceable : check_new (length p) t n new ≡ Accepted → Replaceable t n new
+  new_replaceable : check_new (length p) t n new ≡ accepted → Replaceable t n new
   unfolding check_new
   new_replaceable h =
       let (good, g) = passed_row_unless 4 n (is_good_new (length p) new) _ h in
@@ -96,7 +95,7 @@ module _ (p t : Bytes) (n : ℕ) (new : Bytes) (count : ℕ) where
       let (inside, same) = and_true (ltb n (rows t)) _ stands in
       record { inside = ltb-true n (rows t) inside; long = eqb-true (length new) 32 long; place = sym (same_pos_true (pos_of t n) (pos_of new 0) same) }
 
-  pub given : check_replace p t n new count ≡ Accepted → Given
+  pub given : check_replace p t n new count ≡ accepted → Given
   unfolding check_replace
   given h =
       let (tests, rest) = passed_both (or_else (check_input p t) (check_new (length p) t n new)) _ h in
@@ -107,37 +106,37 @@ module _ (p t : Bytes) (n : ℕ) (new : Bytes) (count : ℕ) where
 
   -- a call is accepted just where the old table is, there is a row n, the new one has 32 bytes and stands there, the table with it is accepted, and the
   -- list has twelve entries a row
-  pub replace_accepted : Given → check_replace p t n new count ≡ Accepted
+  pub replace_accepted : Given → check_replace p t n new count ≡ accepted
   unfolding check_replace
   replace_accepted g =
-      let new_row : check_new (length p) t n new ≡ Accepted = sym (new_checked p g.input g.replaceable) ∙ g.new_input in
+      let new_row : check_new (length p) t n new ≡ accepted = sym (new_checked p g.input g.replaceable) ∙ g.new_input in
       rw (g.input, new_row, eq-eqb count (rows t * 12) g.list_long) refl
 
   -- ---- where each number falls
 
   -- What falls on the profile or the old table falls on the call,
-  pub input_refused : {m i : ℕ} → check_input p t ≡ Refused m i → check_replace p t n new count ≡ Refused m i
+  pub input_refused : {m i : ℕ} → check_input p t ≡ refused m i → check_replace p t n new count ≡ refused m i
   unfolding check_replace
   input_refused h = rw h refl
 
   module _ (h : IsAccepted p t) where
     -- then "a bad new row, or one not of 32 bytes, is number 4",
-    pub bad_refused : is_good_new (length p) new ≡ false → check_replace p t n new count ≡ Refused 4 n
+    pub bad_refused : is_good_new (length p) new ≡ false → check_replace p t n new count ≡ refused 4 n
     unfolding check_replace check_new
     bad_refused bad = rw (h, bad) refl
 
     module _ (good : is_good_new (length p) new ≡ true) where
       -- "another position or no such row 5",
-      pub place_refused : stands_at_row t n new ≡ false → check_replace p t n new count ≡ Refused 5 n
+      pub place_refused : stands_at_row t n new ≡ false → check_replace p t n new count ≡ refused 5 n
       unfolding check_replace check_new
       place_refused away = rw (h, good, away) refl
 
       -- "an overdriven new row 10",
-      pub overdriven_refused : stands_at_row t n new ≡ true → is_overdriven new 0 ≡ true → check_replace p t n new count ≡ Refused 10 n
+      pub overdriven_refused : stands_at_row t n new ≡ true → is_overdriven new 0 ≡ true → check_replace p t n new count ≡ refused 10 n
       unfolding check_replace check_new
       overdriven_refused there driven = rw (h, good, there, driven) refl
 
     -- "then a wrong list length 7", row 0
-    pub length_refused : check_new (length p) t n new ≡ Accepted → ¬ (count ≡ rows t * 12) → check_replace p t n new count ≡ Refused 7 0
+    pub length_refused : check_new (length p) t n new ≡ accepted → ¬ (count ≡ rows t * 12) → check_replace p t n new count ≡ refused 7 0
     unfolding check_replace
     length_refused new_row wrong = rw (h, new_row, ne_eqb count (rows t * 12) wrong) refl

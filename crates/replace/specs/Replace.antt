@@ -5,10 +5,8 @@ use Rattle.std.specs.Prelude.{◌≡◌, Bool, not, ◌&&◌, List, [], ◌∷�
 use Rattle.columns.specs.Column.{Bytes}
 use Rattle.world.specs.Rows.{rows, pos_of}
 use Rattle.world.specs.Find.{stands_at}
-use Rattle.refusals.specs.declared.Checked.{Checked}
-use Rattle.refusals.specs.declared.Checked.TheVariants.{Accepted}
 use Rattle.refusals.specs.Answers.{of_input}
-use Rattle.refusals.specs.Check.{refuse_row_unless, or_else, also, is_bad, is_overdriven, check_input, answer_of, written}
+use Rattle.refusals.specs.Check.{Checked, accepted, refuse_row_unless, or_else, also, is_bad, is_overdriven, check_input, answer_of, written}
 use Rattle.feeding.specs.Feeders.{is_list_length}
 use Rattle.feeding.specs.Replaced.{replaced, updated_list}
 
@@ -24,7 +22,7 @@ stands_at_row t n new = ltb n (rows t) && stands_at t (pos_of new 0) n
 unfoldable pub check_new : ℕ → Bytes → ℕ → Bytes → Checked
 check_new kinds t n new =
     refuse_row_unless 4 n (is_good_new kinds new)
-    (refuse_row_unless 5 n (stands_at_row t n new) (refuse_row_unless 10 n (not (is_overdriven new 0)) Accepted))
+    (refuse_row_unless 5 n (stands_at_row t n new) (refuse_row_unless 10 n (not (is_overdriven new 0)) accepted))
 
 -- "After the old table's checks" these, "then a wrong list length 7", row 0: of a list of so many entries
 unfoldable pub check_replace : Bytes → Bytes → ℕ → Bytes → ℕ → Checked

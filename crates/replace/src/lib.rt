@@ -6,18 +6,17 @@ ghost use Rattle.std.specs.Int.Signed.{le_z};
 ghost use Rattle.columns.specs.Column.{concat_rows};
 ghost use Rattle.world.specs.Rows.{rows};
 ghost use Rattle.refusals.specs.Accepted.{Table};
-ghost use Rattle.classes.specs.Towards.{places};
-ghost use Rattle.circuit.specs.Circuit.{Shaped};
 ghost use Rattle.feeding.specs.Replaced.{at_most_two_apart, is_near, is_renewed, updated_list};
 ghost use Rattle.feeding.specs.Around.{updated_in};
 ghost use Rattle.replace.specs.Replace.{stands_at_row, check_new, check_replace, Replaces};
 
 use blocks::kind;
+use circuit::Network;
 use feeders::{is_list_length, write_row};
 use places::Pos;
 use prepare::prepare;
-use refusals::Checked;
 use refusals::scan::{first_bad, first_overdriven};
+use refusals::{Checked, Refused, check_input, refuse_at, refuse_row_unless, refuse_unless};
 use subtables::put_row;
 use world::row;
 
@@ -55,32 +54,15 @@ fn is_renewed(table: &[u8], n: usize, i: usize) -> bool
 }
 
 // Writes the entries of row n afresh, and those of dust at most two cells away, by the columns of the table after row n was replaced.
-fn update_rows(table: &[u8], near: &[u16], class: &[u32], n: usize, list: &mut [u16])
-    requires shaped { Shaped near.now class.now }
-    requires class_len { (length class.now ≡ rows table.now) × (length list.old ≡ rows table.now * 12) }
-    ensures { list.new ≡ concat_rows (rows table.now) (updated_in table.now near.now class.now n list.old) }
+fn update_rows(table: &[u8], network: Network, n: usize, list: &mut [u16])
+    requires { (length network.class.now ≡ rows table.now) × (length list.old ≡ rows table.now * 12) }
+    ensures { list.new ≡ concat_rows (rows table.now) (updated_in table.now network.entry.near.now network.entry.class.now n list.old) }
 {
     for i in 0..row::rows(table) {
         if is_renewed(table, n, i) {
-            write_row(near, class, i, list);
+            write_row(network, i, list);
         }
     }
-}
-
-// The same, with room for the columns.
-fn update_in(
-    profile: &[u8],
-    table: &[u8],
-    n: usize,
-    near: &mut [u16],
-    class: &mut [u32],
-    list: &mut [u16],
-)
-    requires { Table table.now × (length near.old ≡ places * rows table.now) × (length class.old ≡ rows table.now) × (length list.old ≡ rows table.now * 12) }
-    ensures { list.new ≡ updated_list profile.now table.now n list.old }
-{
-    prepare(profile, table, near, class);
-    update_rows(table, near, class, n, list);
 }
 
 // The same, of the table after row n was replaced.
@@ -88,17 +70,13 @@ fn update_list(profile: &[u8], table: &[u8], n: usize, list: &mut [u16])
     requires { Table table.now × (length list.old ≡ rows table.now * 12) }
     ensures { list.new ≡ updated_list profile.now table.now n list.old }
 {
+    let count = row::rows(table);
     let mut near = [0u16; 7168];
     let mut class = [0u32; 1024];
-    let count = row::rows(table);
-    update_in(
-        profile,
-        table,
-        n,
-        &mut near[0..7 * count],
-        &mut class[0..count],
-        list,
-    );
+    let near = &mut near[..7 * count];
+    let class = &mut class[..count];
+    prepare(profile, table, near, class);
+    update_rows(table, Network { near, class }, n, list);
 }
 
 // Whether the new row stands where the row of this number does.
@@ -109,38 +87,32 @@ fn stands_at_row(table: &[u8], n: usize, new: &[u8]) -> bool
 }
 
 // Refusals 4, 5 and 10 of the new row, where a profile has bytes for this many kinds.
+#[tactic(auto, unfolding(crate::specs::Replace::check_new))]
 fn check_new(kinds: usize, table: &[u8], n: u16, new: &[u8]) -> Checked
     ensures { result ≡ check_new kinds table.now n new.now }
 {
-    if new.len() != row::WIDTH {
-        return Checked::Refused { number: 4, row: n };
-    }
-    let bad = refusals::refuse_at(4, first_bad(kinds, new, 1), n as usize);
-    let misplaced = refusals::refuse_row_unless(5, n, stands_at_row(table, n as usize, new));
-    let overdriven = refusals::refuse_at(10, first_overdriven(new, 1), n as usize);
-    refusals::or_else(bad, refusals::or_else(misplaced, overdriven))
+    refuse_row_unless(Refused::BAD_ROW, n, new.len() == row::WIDTH)?;
+    refuse_at(Refused::BAD_ROW, first_bad(kinds, new, 1), n as usize)?;
+    refuse_row_unless(Refused::MISPLACED, n, stands_at_row(table, n as usize, new))?;
+    refuse_at(Refused::OVERDRIVEN, first_overdriven(new, 1), n as usize)
 }
 
 // Refusals 1 to 5 and 10 of the table, 4, 5 and 10 of the new row, and 7 for a list of this many entries.
+#[tactic(auto, unfolding(crate::specs::Replace::check_replace))]
 fn check_replace(profile: &[u8], table: &[u8], n: u16, new: &[u8], count: usize) -> Checked
     ensures { result ≡ check_replace profile.now table.now n new.now count }
 {
-    let old = refusals::check_input(profile, table);
-    let replacing = check_new(profile.len(), table, n, new);
-    refusals::also(
-        refusals::or_else(old, replacing),
-        7,
-        is_list_length(table, count),
-    )
+    check_input(profile, table)?;
+    check_new(profile.len(), table, n, new)?;
+    refuse_unless(Refused::COLUMN, is_list_length(table, count))
 }
 
 // Writes the new row over row n, updates the list and answers the number of rows; or the refusal.
 pub fn replace(profile: &[u8], table: &mut [u8], n: u16, new: &[u8], list: &mut [u16]) -> u32
     ensures { Replaces profile.now table.old table.new n new.now list.old list.new result }
 {
-    let checked = check_replace(profile, table, n, new, list.len());
-    if let Checked::Refused { number: _, row: _ } = checked {
-        return refusals::answer(checked, 0);
+    if let Err(refused) = check_replace(profile, table, n, new, list.len()) {
+        return refused.answer();
     }
     put_row(new, 0, table, n as usize);
     update_list(profile, table, n as usize, list);

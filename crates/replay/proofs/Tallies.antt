@@ -2,17 +2,22 @@
 -- Assumes nothing.
 use mathlib.Core.Path.{◌≡◌, refl, ◌∙◌}
 use mathlib.Core.Bool.{Bool, true, false}
-use Prim.Native.Nat.{ℕ, zero, suc, ◌+◌, ◌-◌, ◌≤◌}
+use Prim.Native.Nat.{ℕ, zero, suc, ◌+◌, ◌≤◌}
 use native.Mathlib.Omega.{arith}
-use lib.ListN.{length, drop, length-drop}
-use lib.Seq.{drop-drop}
+use lib.ListN.{length, length-drop}
 use borrow.Author.Tests.{leb-true}
 use Rattle.columns.specs.Column.{Bytes}
+use Rattle.std.specs.Int.{from_bool}
 use Rattle.words.specs.Words.{word}
 use Rattle.replay.specs.Operations.{is_right}
 use Rattle.replay.specs.Replay.{starts_whole, first_record, later_records, count_if, ended, tally_from, tally_of}
 
-pub count_most : (b : Bool) (n : ℕ) → count_if b n ≤ n + 1
+-- a flag as a number
+pub counted : (b : Bool) (n : ℕ) → n + from_bool b ≡ count_if b n
+counted true n = refl
+counted false n = omega arith
+
+count_most : (b : Bool) (n : ℕ) → count_if b n ≤ n + 1
 count_most true n = omega arith
 count_most false n = omega arith
 
@@ -25,35 +30,35 @@ unfolding tally_from
 tally_all zero s records right w = refl
 tally_all (suc n) s records right w = rw w
 
--- ---- after so many records the file stands at an index
+-- ---- after so many records, of which so many were right, this is left
 
-pub record Replayed (s : Bytes) (records right at : ℕ) : Type 0 where
+pub record Replayed (s : Bytes) (records right : ℕ) (rest : Bytes) : Type 0 where
+  pub few : records + length rest ≤ length s
+  pub some : right ≤ records
   -- at most so many records are left
   pub most : ℕ
-  pub enough : length s - at ≤ most
-  pub is : tally_of s ≡ tally_from most (drop at s) records right
+  pub enough : length rest ≤ most
+  pub is : tally_of s ≡ tally_from most rest records right
 
-pub replayed_none : (s : Bytes) → Replayed s 0 0 0
+pub replayed_none : (s : Bytes) → Replayed s 0 0 s
 unfolding tally_of
-replayed_none s = record { most = length s; enough = omega arith; is = refl }
+replayed_none s = record { few = omega arith; some = omega arith; most = length s; enough = omega arith; is = refl }
 
--- a whole record leaves room for itself
-pub whole_fits : (s : Bytes) (at : ℕ) → starts_whole (drop at s) ≡ true → 4 + word (drop at s) ≤ length s - at
-whole_fits s at w = rw length-drop at (leb-true (4 + word (drop at s)) (length (drop at s)) w)
-
-module _ {s : Bytes} {records right at : ℕ} (h : Replayed s records right at) where
-  pub replayed_more : starts_whole (drop at s) ≡ true → Replayed s (records + 1) (count_if (is_right (first_record (drop at s))) right) (at + (4 + word (drop at s)))
-  replayed_more w = go h.most h.enough h.is (whole_fits s at w)
+module _ {s rest : Bytes} {records right : ℕ} (h : Replayed s records right rest) where
+  pub replayed_more : starts_whole rest ≡ true → Replayed s (records + 1) (count_if (is_right (first_record rest)) right) (later_records rest)
+  replayed_more w = go h.most h.enough h.is (leb-true (4 + word rest) (length rest) w)
     where
-      go : (n : ℕ) → length s - at ≤ n → tally_of s ≡ tally_from n (drop at s) records right → 4 + word (drop at s) ≤ length s - at
-          → Replayed s (records + 1) (count_if (is_right (first_record (drop at s))) right) (at + (4 + word (drop at s)))
+      go : (n : ℕ) → length rest ≤ n → tally_of s ≡ tally_from n rest records right → 4 + word rest ≤ length rest
+          → Replayed s (records + 1) (count_if (is_right (first_record rest)) right) (later_records rest)
       go zero e i f = absurd (omega arith)
       go (suc n) e i f =
           record {
+            few = rw length-drop (omega (arith, h.few));
+            some = omega (arith, h.some, count_most (is_right (first_record rest)) right);
             most = n;
-            enough = omega arith;
-            is = i ∙ rw (← drop-drop (4 + word (drop at s)) at s) (tally_more n (drop at s) records right w);
+            enough = rw length-drop (omega arith);
+            is = i ∙ tally_more n rest records right w;
           }
 
-  pub replayed_all : starts_whole (drop at s) ≡ false → tally_of s ≡ ended (drop at s) records right
-  replayed_all w = h.is ∙ tally_all h.most (drop at s) records right w
+  pub replayed_all : starts_whole rest ≡ false → tally_of s ≡ ended rest records right
+  replayed_all w = h.is ∙ tally_all h.most rest records right w

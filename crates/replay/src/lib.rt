@@ -3,10 +3,10 @@
 
 mod operations;
 
-ghost use Rattle.std.specs.Prelude.{◌≡◌, ◌+◌, ◌<◌, ◌^◌};
+ghost use Rattle.std.specs.Prelude.{◌≡◌, ◌+◌};
 ghost use Rattle.words.specs.Words.{word as Words·word};
 ghost use Rattle.replay.specs.Operations.{is_right};
-ghost use Rattle.replay.specs.Replay.{starts_whole, first_record, count_if, tally_of};
+ghost use Rattle.replay.specs.Replay.{starts_whole, first_record, tally_of};
 
 use operations::is_right;
 use words::{from, front, word};
@@ -39,29 +39,22 @@ fn first_is_right(s: &[u8]) -> bool
     is_right(front(from(s, 4), word(s) as usize))
 }
 
-fn count_if(b: bool, n: usize) -> usize
-    requires { n + 1 < 2 ^ 64 }
-    ensures { result ≡ count_if b n }
-{
-    if b { n + 1 } else { n }
-}
-
 pub fn replay(s: &[u8]) -> Tally
     ensures { result ≡ tally_of s.now }
 {
     let mut records = 0;
     let mut right = 0;
-    let mut at = 0;
-    while starts_whole(from(s, at)) {
-        let rest = from(s, at);
-        right = count_if(first_is_right(rest), right);
+    let mut rest = s;
+    // How long a record is, is read from the file.
+    while starts_whole(rest) {
+        right += usize::from(first_is_right(rest));
         records += 1;
-        at += taken(rest);
+        rest = from(rest, taken(rest));
     }
     Tally {
         records,
         right,
         wrong: records - right,
-        whole: from(s, at).len() == 0,
+        whole: rest.is_empty(),
     }
 }

@@ -1,36 +1,11 @@
 // Whether the answer of a record is right, by its operation.
 ghost use Rattle.std.specs.Prelude.{◌≡◌};
-ghost use Rattle.replay.specs.Operations.{call_right, wire_right, is_right};
+ghost use Rattle.replay.specs.Operations.{is_right};
 
 use answers::right;
 use columns::byte_at;
 
-// The editor's calls. An operation that is not known is wrong.
-fn call_right(r: &[u8], operation: u8) -> bool
-    ensures { result ≡ call_right r.now operation }
-{
-    match operation {
-        10 => calls::settle_right(r),
-        11 => calls::fresh_right(r),
-        12 => tick_calls::ticks_right(r),
-        13 => tick_calls::switch_right(r),
-        _ => false,
-    }
-}
-
-// Dust, or a call.
-fn wire_right(r: &[u8], operation: u8) -> bool
-    ensures { result ≡ wire_right r.now operation }
-{
-    match operation {
-        7 => wire_answers::right::arms_right(r),
-        8 => wire_answers::right::transfer_right(r),
-        9 => wire_answers::right::redraw_right(r),
-        _ => call_right(r, operation),
-    }
-}
-
-// By the operation, the first byte.
+// By the operation, the first byte. One that is not known is wrong.
 pub fn is_right(r: &[u8]) -> bool
     ensures { result ≡ is_right r.now }
 {
@@ -42,6 +17,13 @@ pub fn is_right(r: &[u8]) -> bool
         4 => support_answers::supports_right(r),
         5 => right::properties_right(r),
         6 => right::offset_right(r),
-        _ => wire_right(r, operation),
+        7 => wire_answers::right::arms_right(r),
+        8 => wire_answers::right::transfer_right(r),
+        9 => wire_answers::right::redraw_right(r),
+        10 => calls::settle_right(r),
+        11 => calls::fresh_right(r),
+        12 => tick_calls::ticks_right(r),
+        13 => tick_calls::switch_right(r),
+        _ => false,
     }
 }

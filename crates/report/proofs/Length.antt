@@ -1,5 +1,6 @@
 -- No text is longer than the room: the text of every input fits.
 -- Assumes nothing.
+use Rattle.std.proofs.Common.{Ok, Err}
 use mathlib.Core.Path.{◌≡◌, refl}
 use mathlib.Core.Bool.{Bool, true, false}
 use mathlib.Core.Logic.{by_cases}
@@ -17,10 +18,8 @@ use Rattle.columns.specs.Ascii.{ascii}
 use Rattle.columns.proofs.First.{first_at}
 use Rattle.columns.proofs.Parts.{concat_rows_short}
 use Rattle.world.specs.Rows.{rows, pos_of}
-use Rattle.refusals.specs.declared.Checked.{Checked}
-use Rattle.refusals.specs.declared.Checked.TheVariants.{Accepted, Refused}
 use Rattle.layout.specs.Good.{good_profile}
-use Rattle.refusals.specs.Check.{refuse_unless, refuse_at, is_bad, is_misplaced, is_overdriven, check_rows, check_table, check_input}
+use Rattle.refusals.specs.Check.{Checked, accepted, refused, refuse_unless, refuse_at, is_bad, is_misplaced, is_overdriven, check_rows, check_table, check_input}
 use Rattle.refusals.proofs.Accepted.{accepted_input, in-range}
 use Rattle.electrical.specs.Answer.{rounds_of, settled}
 use Rattle.electrical.proofs.Demand.{rounds_range, settled_at_most_15}
@@ -34,7 +33,7 @@ use Rattle.report.proofs.Run.{run_accepted, run_refused, crowded_text, short_tex
 
 -- ---- the text of an accepted table
 
-settled_few : (p t : Bytes) → check_input p t ≡ Accepted → length (run_text p t) ≤ room
+settled_few : (p t : Bytes) → check_input p t ≡ accepted → length (run_text p t) ≤ room
 unfolding run_text settled_text
 settled_few p t h =
     let d = fresh_devices t in
@@ -50,8 +49,8 @@ settled_few p t h =
 
 -- a refusal's number and row are small
 abbrev Small : Checked → Type 0
-Small Accepted = Unit {0}
-Small (Refused n i) = (n ≤ 10) × (i ≤ 1024)
+Small (Ok _) = Unit {0}
+Small (Err fault) = (fault.number ≤ 10) × (fault.row ≤ 1024)
 
 small_unless : (n : ℕ) (b : Bool) (next : Checked) → n ≤ 10 → (b ≡ true → Small next) → Small (refuse_unless n b next)
 small_unless n true next h g = g refl
@@ -74,11 +73,11 @@ small_input p t =
     (λ k e. omega (arith, (first_at (is_bad (length p) t) (rows t) 0 k e).inside, leb-true (rows t) 1024 few))
     (small_at 5 1 (first_from (is_misplaced t) (rows t - 1) 0) _ (omega arith)
     (λ k e. omega (arith, (first_at (is_misplaced t) (rows t - 1) 0 k e).inside, leb-true (rows t) 1024 few))
-    (small_at 10 0 (first_from (is_overdriven t) (rows t) 0) Accepted (omega arith)
+    (small_at 10 0 (first_from (is_overdriven t) (rows t) 0) accepted (omega arith)
     (λ k e. omega (arith, (first_at (is_overdriven t) (rows t) 0 k e).inside, leb-true (rows t) 1024 few))
     tt)))))
 
-refusal_fits : (n i : ℕ) → Small (Refused n i) → length (refusal_text n i) ≤ room
+refusal_fits : (n i : ℕ) → Small (refused n i) → length (refusal_text n i) ≤ room
 refusal_fits n i s = omega (arith, refusal_few n i (omega (arith, s.0)) (omega (arith, s.1)))
 
 -- ---- the text of the whole input
@@ -87,8 +86,8 @@ run_fits : (p t : Bytes) → length (text_of (check_run p t) (run_text p t)) ≤
 run_fits p t = go (check_input p t) refl (small_input p t)
   where
     go : (c : Checked) → check_input p t ≡ c → Small c → length (text_of (check_run p t) (run_text p t)) ≤ room
-    go Accepted e s = rw (run_accepted p t e) (settled_few p t e)
-    go (Refused n i) e s = rw (run_refused p t e) (refusal_fits n i s)
+    go (Ok _) e s = rw (run_accepted p t e) (settled_few p t e)
+    go (Err fault) e s = rw (run_refused p t e) (refusal_fits fault.number fault.row s)
 
 pub text_fits : (input : Bytes) → length (settle_text input) ≤ room
 text_fits input =

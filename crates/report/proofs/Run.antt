@@ -13,8 +13,7 @@ use lib.Dec.{eqb, leb}
 use borrow.Author.Tests.{eq-eqb, ne_eqb, le-leb, lt-leb}
 use Rattle.columns.specs.Column.{Bytes}
 use Rattle.world.specs.Rows.{rows}
-use Rattle.refusals.specs.declared.Checked.TheVariants.{Accepted, Refused}
-use Rattle.refusals.specs.Check.{check_input}
+use Rattle.refusals.specs.Check.{accepted, refused, check_input}
 use Rattle.refusals.proofs.Accepted.{accepted_input}
 use Rattle.electrical.specs.Answer.{check_call, check_settle}
 use Rattle.electrical.proofs.Demand.{never_unsettled}
@@ -26,20 +25,20 @@ use Rattle.report.specs.Text.{text_of, profile_bytes, profile_of, table_of, chec
 -- ---- what falls on a run
 
 module _ (p t : Bytes) where
-  call_accepted : check_input p t ≡ Accepted → check_call p t (fresh_devices t) (rows t) (rows t) (rows t) ≡ Accepted
+  call_accepted : check_input p t ≡ accepted → check_call p t (fresh_devices t) (rows t) (rows t) (rows t) ≡ accepted
   unfolding check_call
   call_accepted h = rw (h, fresh_devices_valid t (accepted_input p t h).1, eq-eqb (rows t) (rows t) refl)
 
-  pub run_accepted : check_input p t ≡ Accepted → check_run p t ≡ Accepted
+  pub run_accepted : check_input p t ≡ accepted → check_run p t ≡ accepted
   unfolding check_run
   run_accepted h = never_unsettled p t (fresh_devices t) 128 (omega arith) (rows t) (rows t) (rows t) ∙ call_accepted h
 
-  pub run_refused : {n i : ℕ} → check_input p t ≡ Refused n i → check_run p t ≡ Refused n i
+  pub run_refused : {n i : ℕ} → check_input p t ≡ refused n i → check_run p t ≡ refused n i
   unfolding check_run check_settle check_call
   run_refused h = rw h
 
   -- a table that is accepted has few rows
-  pub run_few : check_input p t ≡ Accepted → rows t ≤ 1024
+  pub run_few : check_input p t ≡ accepted → rows t ≤ 1024
   run_few h = (accepted_input p t h).1.few
 
 -- ---- the text of the whole input

@@ -1,20 +1,18 @@
 -- The text that the program `settle` writes, as a function of the whole of its input. What stands in quotation marks is document 01's, or document
 -- 02's, Change 4.
 -- Assumes nothing.
-use Rattle.std.specs.Prelude.{◌≡◌, Bool, cond, ◌||◌, [], ℕ, ◌%◌, ◌≤◌, length, take, drop, eqb, leb}
+use Rattle.std.specs.Prelude.{Ok, Err, ◌≡◌, Bool, cond, ◌||◌, [], ℕ, ◌%◌, ◌≤◌, length, take, drop, eqb, leb}
 use Rattle.columns.specs.Column.{Bytes, at_front}
 use Rattle.world.specs.Rows.{rows}
-use Rattle.refusals.specs.declared.Checked.{Checked}
-use Rattle.refusals.specs.declared.Checked.TheVariants.{Accepted, Refused}
-use Rattle.refusals.specs.Check.{refuse_unless}
+use Rattle.refusals.specs.Check.{Checked, refuse_unless}
 use Rattle.electrical.specs.Answer.{rounds_of, settled, check_settle}
 use Rattle.updates.specs.State.{fresh_devices}
 use Rattle.lines.specs.Lines.{settled_text, refusal_text}
 
 -- the refusal's text, or that of a call that is not refused
 abbrev pub text_of : Checked → Bytes → Bytes
-text_of Accepted done = done
-text_of (Refused n i) done = refusal_text n i
+text_of (Ok _) done = done
+text_of (Err fault) done = refusal_text fault.number fault.row
 
 -- ---- the whole input
 

@@ -2,13 +2,13 @@
 #![tactic(auto)]
 
 ghost use Rattle.std.specs.Prelude.{◌≡◌, ◌≤◌, length};
-ghost use Rattle.refusals.specs.declared.Checked.TheVariants.{Accepted};
-ghost use Rattle.refusals.specs.Check.{check_input};
+ghost use Rattle.refusals.specs.Check.{accepted, check_input};
 ghost use Rattle.text.specs.Put.{Puts};
 ghost use Rattle.report.specs.Text.{profile_bytes, profile_of, table_of, check_run, has_whole_rows, run_text, text_of, settle_text, room, Reports};
 
 use blocks::{PROFILE_BYTES, PROFILE_BYTES_WITH_BULB};
-use refusals::Checked;
+use lines::LevelColumns;
+use refusals::Refused;
 use world::row;
 
 // Where a buffer has this many bytes, the text has room in it.
@@ -21,23 +21,19 @@ const MOST: usize = 32782;
 pub const TOO_MANY: usize = 32783;
 
 // The text of an accepted table.
+#[tactic(auto, using(crate::proofs::Run::run_few))]
 fn settled(profile: &[u8], table: &[u8], out: &mut [u8]) -> usize
-    requires { (check_input profile.now table.now ≡ Accepted) × (room ≤ length out.old) }
+    requires { (check_input profile.now table.now ≡ accepted) × (room ≤ length out.old) }
     ensures { Puts (run_text profile.now table.now) 0 out.old out.new result }
 {
     let made = initial::settle(profile, table);
-    let signal = made.signal;
-    let weak = made.weak;
-    let strong = made.strong;
     let n = row::rows(table);
-    lines::settled(
-        out,
-        table,
-        made.answer,
-        &signal[..n],
-        &weak[..n],
-        &strong[..n],
-    )
+    let columns = LevelColumns {
+        signal: &made.signal[..n],
+        weak: &made.weak[..n],
+        strong: &made.strong[..n],
+    };
+    lines::settled(out, table, made.answer, &columns)
 }
 
 // The text of a profile and a table.
@@ -46,8 +42,8 @@ fn checked(profile: &[u8], table: &[u8], out: &mut [u8]) -> usize
     ensures { Puts (text_of (check_run profile.now table.now) (run_text profile.now table.now)) 0 out.old out.new result }
 {
     match refusals::check_input(profile, table) {
-        Checked::Accepted => settled(profile, table, out),
-        Checked::Refused { number, row } => lines::refusal(out, number, row),
+        Ok(()) => settled(profile, table, out),
+        Err(refused) => lines::refusal(out, refused.number, refused.row),
     }
 }
 
@@ -84,15 +80,15 @@ fn whole(input: &[u8], out: &mut [u8]) -> usize
     ensures { Puts (settle_text input.now) 0 out.old out.new result }
 {
     if MOST < input.len() {
-        return lines::refusal(out, 3, 0);
+        return lines::refusal(out, Refused::CROWDED, 0);
     }
     if input.len() < PROFILE_BYTES {
-        return lines::refusal(out, 1, 0);
+        return lines::refusal(out, Refused::PROFILE, 0);
     }
     if has_whole_rows(input) {
         return parted(input, out);
     }
-    lines::refusal(out, 2, 0)
+    lines::refusal(out, Refused::RAGGED, 0)
 }
 
 // Puts the text that the program writes for its whole input at the front of a buffer, and answers how many bytes it has. In a buffer

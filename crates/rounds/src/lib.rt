@@ -3,12 +3,3 @@
 
 mod run;
 pub mod settle;
-
-use levels::signal::Rounds;
-
-// How settling ends: by the round that answers, or at the limit.
-#[derive(Clone, Copy)]
-pub enum Outcome {
-    Settled { rounds: Rounds },
-    Unsettled,
-}

@@ -1,11 +1,11 @@
 // The loop of rounds over the prepared columns.
-ghost use Rattle.std.specs.Prelude.{◌≡◌, min, length};
+ghost use Rattle.std.specs.Prelude.{◌≡◌, length};
 ghost use Rattle.columns.specs.Column.{tabulate};
 ghost use Rattle.circuit.specs.Circuit.{circuit, signals_in};
 ghost use Rattle.rounds.specs.Prepared.{Prepared, Room, Turns};
 ghost use Rattle.rounds.specs.Outcome.{RunsRounds};
 
-use crate::Outcome;
+use circuit::Network;
 use columns::{copy, zeros};
 use levels::signal::Rounds;
 use round::{answers, first_signals, next_signals, next_weaks};
@@ -22,8 +22,7 @@ fn start(class: &[u32], emitted: &[u8], s0: &mut [u8], w0: &mut [u8])
 
 // One round, and whether it answers: from the last one's signals, which stand in s0, and its weak power in w0.
 fn turn(
-    near: &[u16],
-    class: &[u32],
+    network: Network,
     emitted: &[u8],
     base: &[u8],
     direct: &[u8],
@@ -33,13 +32,13 @@ fn turn(
     s1: &mut [u8],
     w1: &mut [u8],
 ) -> bool
-    requires prepared { Prepared near.now class.now emitted.now base.now direct.now }
-    requires room { Room (length class.now) s0.now w0.now s1.old w1.old }
-    ensures { Turns (circuit near.now class.now) emitted.now rounds s0.now w0.now s1.new w1.new result }
+    requires prepared { Prepared network.near.now network.class.now emitted.now base.now direct.now }
+    requires room { Room (length network.class.now) s0.now w0.now s1.old w1.old }
+    ensures { Turns (circuit network.entry.near.now network.entry.class.now) emitted.now rounds s0.now w0.now s1.new w1.new result }
 {
-    next_signals(near, class, emitted, direct, s0, s1);
-    next_weaks(near, class, base, s0, w1);
-    answers(class, rounds, s0, w0, s1, w1)
+    next_signals(network, emitted, direct, s0, s1);
+    next_weaks(network, base, s0, w1);
+    answers(network.class, rounds, s0, w0, s1, w1)
 }
 
 // The round just made is the last one.
@@ -52,46 +51,36 @@ fn advance(s1: &[u8], w1: &[u8], s0: &mut [u8], w0: &mut [u8])
     copy(w1, w0);
 }
 
-// As many rounds of a limit as can be needed: one answers by the last of them.
-fn needed(limit: u32) -> u32
-    ensures { result ≡ min 17 limit }
-{
-    if Rounds::MAX < limit {
-        return Rounds::MAX;
-    }
-    limit
-}
-
-// Rounds until one answers, while the limit lasts. The answering round's columns stand in s1 and w1.
+// Rounds until one answers, while the limit lasts, which falls with each round: one answers by the 17th. The answering round's columns stand in s1 and w1.
 pub fn run(
-    near: &[u16],
-    class: &[u32],
+    network: Network,
     emitted: &[u8],
     base: &[u8],
     direct: &[u8],
     limit: u32,
-    s0: &mut [u8],
-    w0: &mut [u8],
     s1: &mut [u8],
     w1: &mut [u8],
-) -> Outcome
-    requires prepared { Prepared near.now class.now emitted.now base.now direct.now }
-    requires room { Room (length class.now) s0.old w0.old s1.old w1.old }
-    ensures { RunsRounds (circuit near.now class.now) emitted.now limit s1.new w1.new result }
+) -> Option<Rounds>
+    requires prepared { Prepared network.near.now network.class.now emitted.now base.now direct.now }
+    requires s1_len { (length s1.old ≡ length network.class.now) × (length w1.old ≡ length network.class.now) }
+    ensures { RunsRounds (circuit network.entry.near.now network.entry.class.now) emitted.now limit s1.new w1.new result }
 {
-    start(class, emitted, s0, w0);
-    let mut rounds: u32 = 0;
-    let mut left = needed(limit);
+    let n = network.class.len();
+    let mut s0 = [0u8; 1024];
+    let mut w0 = [0u8; 1024];
+    let s0 = &mut s0[..n];
+    let w0 = &mut w0[..n];
+    start(network.class, emitted, s0, w0);
+    let mut rounds = 0;
+    let mut left = limit.min(Rounds::MAX);
     while 0 < left {
         left -= 1;
-        let answered = turn(near, class, emitted, base, direct, rounds, s0, w0, s1, w1);
+        let answered = turn(network, emitted, base, direct, rounds, s0, w0, s1, w1);
         rounds += 1;
         if answered {
-            return Outcome::Settled {
-                rounds: Rounds { count: rounds },
-            };
+            return Some(Rounds { count: rounds });
         }
         advance(s1, w1, s0, w0);
     }
-    Outcome::Unsettled
+    None
 }

@@ -15,6 +15,7 @@ use Rattle.refusals.proofs.Accepted.{accepted_input}
 use Rattle.emitted.specs.Emitted.{emitted}
 use Rattle.edges.specs.Edges.{network_of}
 use Rattle.electrical.specs.Answer.{rounds_of, settled}
+use Rattle.classes.specs.Towards.{places}
 use Rattle.circuit.specs.Circuit.{Shaped, circuit}
 use Rattle.prepare.specs.Classes.{Prepared}
 use Rattle.prepare.proofs.Rows.{length_classes}
@@ -22,7 +23,7 @@ use Rattle.prepare.proofs.Table.{prepared_shaped, circuit_of_table}
 use Rattle.levels.specs.Numbers.{numbers}
 use Rattle.updates.specs.State.{devices_of, IsValidState}
 use Rattle.updates.specs.Tick.{with_devices, with_lights, settled_of, set_devices, set_lights, tick, ticks}
-use Rattle.running.specs.Running.{ColumnLengths, Room, Ready, HoldsSettled, Settled}
+use Rattle.running.specs.Running.{ColumnLengths, Ready, HoldsSettled, Settled}
 use Rattle.running.proofs.Many.{ticks_none, ticks_next}
 use Rattle.running.proofs.States.{length_ticks, tick_devices}
 use Rattle.running.proofs.Valid.{valid_state, devices_of_valid, set_devices_valid, ticks_valid}
@@ -72,8 +73,11 @@ module _ {t : Bytes} (accepted : Table t) {n : ℕ} (is : n ≡ rows t) where
   pub class_front : n ≡ length (take {A = ℕ} n (replicate 1024 0))
   class_front = sym (length_zeros n 1024 few_class)
 
-  pub room : Room t (take {A = ℕ} (n * 7) (replicate 7168 0)) (take {A = ℕ} n (replicate 1024 0))
-  room = record { near_rows = sym near_front ∙ omega arith; class_rows = sym class_front ∙ is }
+  pub near_room : length (take {A = ℕ} (n * 7) (replicate 7168 0)) ≡ places * rows t
+  near_room = sym near_front ∙ omega arith
+
+  pub class_room : length (take {A = ℕ} n (replicate 1024 0)) ≡ rows t
+  class_room = sym class_front ∙ is
 
 -- ---- room stays
 

@@ -14,9 +14,8 @@ use Rattle.columns.proofs.Columns.{length_tabulate, row_tabulate}
 use Rattle.columns.proofs.Parts.{length_concat_rows, part_concat_rows}
 use Rattle.blocks.specs.Kind.{Comparator}
 use Rattle.world.specs.Rows.{rows, kind_of}
-use Rattle.refusals.specs.declared.Checked.TheVariants.{Refused}
 use Rattle.refusals.specs.Accepted.{Table}
-use Rattle.refusals.specs.Check.{IsAccepted}
+use Rattle.refusals.specs.Check.{refused, IsAccepted}
 use Rattle.refusals.proofs.Accepted.{accepted_input}
 use Rattle.refusals.proofs.Passed.{passed_values, values_pass}
 use Rattle.refusals.proofs.Overdriven.{values_given_overdriven}
@@ -28,7 +27,7 @@ use Rattle.electrical.proofs.Demand.{settled_at_most_15}
 use Rattle.states.specs.Row.{device_of, good_state}
 use Rattle.fresh.specs.Fresh.{fresh_device, fresh_row}
 use Rattle.states.proofs.Parts.{parts, whole}
-use Rattle.comparator.specs.Step.{electrical_level}
+use Rattle.levels.specs.Numbers.{electrical_level}
 use Rattle.fresh.proofs.FreshRows.{length_fresh, fresh-device, fresh_low, fresh_row_low, fresh_good}
 use Rattle.steps.proofs.Rows.{light_device}
 use Rattle.steps.proofs.Valid.{device_good, light_good}
@@ -55,7 +54,7 @@ state_valid t st v =
     (record { of_size = eq-eqb _ _ v.sized; good = λ i l. ap not (v.good i l); low = v.low })
 
 -- 10 is given of a state for a comparator's byte
-pub overdriven_state : (t st : Bytes) (i : ℕ) → check_state t st ≡ Refused 10 i → (kind_of t i ≡ Comparator) × (max_signal < device_in st i)
+pub overdriven_state : (t st : Bytes) (i : ℕ) → check_state t st ≡ refused 10 i → (kind_of t i ≡ Comparator) × (max_signal < device_in st i)
 unfolding check_state
 overdriven_state t st i h =
     let (_, good, first) = values_given_overdriven (eqb (length st) (rows t * 16)) (is_bad_state t st) (device_in st) (rows t) i h in

@@ -6,7 +6,6 @@ use Rattle.world.specs.Rows.{rows}
 use Rattle.refusals.specs.Check.{IsAccepted}
 use Rattle.emitted.specs.Emitted.{IsValid}
 use Rattle.electrical.specs.Answer.{settled}
-use Rattle.classes.specs.Towards.{places}
 use Rattle.updates.specs.State.{devices_of}
 
 -- One entry a row of the table t in the device column and in the three output columns.
@@ -15,11 +14,6 @@ pub record ColumnLengths (t : Bytes) (d signal weak strong : Column) : Type 0 wh
   pub signal_rows : length signal ≡ rows t
   pub weak_rows : length weak ≡ rows t
   pub strong_rows : length strong ≡ rows t
-
--- Room for the prepared columns of the table t.
-pub record Room (t : Bytes) (near class : Column) : Type 0 where
-  pub near_rows : length near ≡ places * rows t
-  pub class_rows : length class ≡ rows t
 
 -- The table is accepted, and the state st has sixteen bytes a row, with valid devices.
 pub record Ready (p t st : Bytes) : Type 0 where

@@ -9,31 +9,11 @@ ghost use Rattle.refusals.specs.Check.{IsAccepted};
 ghost use Rattle.electrical.specs.Answer.{rounds_of};
 ghost use Rattle.updates.specs.State.{devices_of, IsValidState, fresh_devices, fresh_state};
 ghost use Rattle.updates.specs.Tick.{ticks};
-ghost use Rattle.running.specs.Running.{ColumnLengths, Room, Ready, HoldsSettled, Settled};
+ghost use Rattle.running.specs.Running.{ColumnLengths, Ready, HoldsSettled, Settled};
 
+use circuit::Network;
 use prepare::prepare;
 use world::row::rows;
-
-fn settle_state_in(
-    profile: &[u8],
-    table: &[u8],
-    near: &mut [u16],
-    class: &mut [u32],
-    state: &[u8],
-    devices: &mut [u8],
-    signal: &mut [u8],
-    weak: &mut [u8],
-    strong: &mut [u8],
-) -> u32
-    requires { Ready profile.now table.now state.now × ColumnLengths table.now devices.old signal.old weak.old strong.old × Room table.now near.old class.old }
-    ensures rounds { result ≡ rounds_of profile.now table.now (devices_of table.now state.now) }
-    ensures columns { Settled profile.now table.now state.now devices.new signal.new weak.new strong.new }
-{
-    prepare(profile, table, near, class);
-    prepared::settle_state(
-        profile, table, near, class, state, devices, signal, weak, strong,
-    )
-}
 
 // `settle_instantaneous`: settles the devices of a state.
 pub fn settle_state(
@@ -52,39 +32,12 @@ pub fn settle_state(
     let n = rows(table);
     let mut near = [0u16; 7168];
     let mut class = [0u32; 1024];
-    settle_state_in(
-        profile,
-        table,
-        &mut near[..n * 7],
-        &mut class[..n],
-        state,
-        devices,
-        signal,
-        weak,
-        strong,
-    )
-}
-
-fn settle_ticks_in(
-    profile: &[u8],
-    table: &[u8],
-    near: &mut [u16],
-    class: &mut [u32],
-    count: u32,
-    state: &mut [u8],
-    devices: &mut [u8],
-    signal: &mut [u8],
-    weak: &mut [u8],
-    strong: &mut [u8],
-) -> u32
-    requires { IsAccepted profile.now table.now × IsValidState table.now state.old × ColumnLengths table.now devices.old signal.old weak.old strong.old × Room table.now near.old class.old }
-    ensures next { state.new ≡ ticks count profile.now table.now state.old }
-    ensures rounds { result ≡ rounds_of profile.now table.now (devices_of table.now state.new) }
-    ensures columns { Settled profile.now table.now state.new devices.new signal.new weak.new strong.new }
-{
+    let near = &mut near[..n * 7];
+    let class = &mut class[..n];
     prepare(profile, table, near, class);
-    prepared::settle_ticks(
-        profile, table, near, class, count, state, devices, signal, weak, strong,
+    let network = Network { near, class };
+    prepared::settle_state(
+        profile, table, network, state, devices, signal, weak, strong,
     )
 }
 
@@ -107,39 +60,12 @@ pub fn settle_ticks(
     let n = rows(table);
     let mut near = [0u16; 7168];
     let mut class = [0u32; 1024];
-    settle_ticks_in(
-        profile,
-        table,
-        &mut near[..n * 7],
-        &mut class[..n],
-        count,
-        state,
-        devices,
-        signal,
-        weak,
-        strong,
-    )
-}
-
-fn new_state_in(
-    profile: &[u8],
-    table: &[u8],
-    near: &mut [u16],
-    class: &mut [u32],
-    state: &mut [u8],
-    devices: &mut [u8],
-    signal: &mut [u8],
-    weak: &mut [u8],
-    strong: &mut [u8],
-) -> u32
-    requires { IsAccepted profile.now table.now × (length state.old ≡ rows_of table.now * 16) × ColumnLengths table.now devices.old signal.old weak.old strong.old × Room table.now near.old class.old }
-    ensures next { state.new ≡ fresh_state profile.now table.now }
-    ensures rounds { result ≡ rounds_of profile.now table.now (fresh_devices table.now) }
-    ensures columns { HoldsSettled profile.now table.now (fresh_devices table.now) signal.new weak.new strong.new }
-{
+    let near = &mut near[..n * 7];
+    let class = &mut class[..n];
     prepare(profile, table, near, class);
-    prepared::new_state(
-        profile, table, near, class, state, devices, signal, weak, strong,
+    let network = Network { near, class };
+    prepared::settle_ticks(
+        profile, table, network, count, state, devices, signal, weak, strong,
     )
 }
 
@@ -161,15 +87,11 @@ pub fn new_state(
     let n = rows(table);
     let mut near = [0u16; 7168];
     let mut class = [0u32; 1024];
-    new_state_in(
-        profile,
-        table,
-        &mut near[..n * 7],
-        &mut class[..n],
-        state,
-        devices,
-        signal,
-        weak,
-        strong,
+    let near = &mut near[..n * 7];
+    let class = &mut class[..n];
+    prepare(profile, table, near, class);
+    let network = Network { near, class };
+    prepared::new_state(
+        profile, table, network, state, devices, signal, weak, strong,
     )
 }

@@ -1,27 +1,23 @@
 // Reads a profile and a table from standard input, and writes what the table settles to, or why it is refused.
 #![tactic(auto)]
 
-use reading::Input;
-
-// Writes a sentence to standard error. Where that cannot be written either, there is nobody to tell.
-fn say(rt: &impl Eprint, sentence: &str) {
-    let _ = rt.eprintln(sentence);
-}
-
 // Writes the text of what was read.
 fn report_on(rt: &(impl Print + Eprint), input: &[u8]) {
     let mut text = [0u8; report::ROOM];
     let count = report::settle_text(input, &mut text);
     if rt.write_all(&text[..count]).is_err() {
-        say(rt, "settle: standard output cannot be written");
+        let _ = eprintln!(rt; "settle: standard output cannot be written");
     }
 }
 
-// One byte more than the longer profile and the largest table have is enough to tell that there are too many.
+// One byte more than the longer profile and the largest table have is enough to tell that there are too many. Where a sentence cannot be written to
+// standard error either, there is nobody to tell.
 fn main(rt: HostRuntime) {
     let mut input = [0u8; report::TOO_MANY];
     match reading::read_all(&mut rt.stdin(), &mut input) {
-        Input::Bytes(n) => report_on(&rt, &input[..n]),
-        Input::Unreadable => say(&rt, "settle: standard input cannot be read"),
+        Ok(n) => report_on(&rt, &input[..n]),
+        Err(_) => {
+            let _ = eprintln!(rt; "settle: standard input cannot be read");
+        }
     }
 }

@@ -12,8 +12,7 @@ use Rattle.columns.proofs.Truth.{and_true}
 use Rattle.columns.proofs.Columns.{length_zeros}
 use Rattle.places.specs.declared.Pos.{Pos}
 use Rattle.world.specs.Rows.{rows}
-use Rattle.refusals.specs.declared.Checked.TheVariants.{Accepted}
-use Rattle.refusals.specs.Check.{IsAccepted, check_input}
+use Rattle.refusals.specs.Check.{accepted, IsAccepted, check_input}
 use Rattle.refusals.proofs.Passed.{passed_unless, passed_both}
 use Rattle.refusals.proofs.Accepted.{accepted_input}
 use Rattle.electrical.specs.Answer.{rounds_of, good_columns}
@@ -36,24 +35,24 @@ pub record Passed (p t : Bytes) (Its : Type 0) (signal weak strong : Column) : T
   pub outputs : Outputs (rows t) signal weak strong
 
 module _ (p t st : Bytes) (signal weak strong : Column) where
-  pub passed_fresh : check_fresh p t (length st) (length signal) (length weak) (length strong) ≡ Accepted
+  pub passed_fresh : check_fresh p t (length st) (length signal) (length weak) (length strong) ≡ accepted
       → Passed p t (length st ≡ rows t * 16) signal weak strong
   unfolding check_fresh
   passed_fresh h =
       let (input, rest) = passed_both (check_input p t) _ h in
-      let (room, _) = passed_unless 7 (eqb (length st) (rows t * 16) && good_columns t (length signal) (length weak) (length strong)) Accepted rest in
+      let (room, _) = passed_unless 7 (eqb (length st) (rows t * 16) && good_columns t (length signal) (length weak) (length strong)) accepted rest in
       let (state, columns) = and_true (eqb (length st) (rows t * 16)) _ room in
       record { accepted = input; state = eqb-true _ _ state; outputs = outputs (rows t) signal weak strong columns }
 
-  pub passed_step : check_step p t st (length signal) (length weak) (length strong) ≡ Accepted → Passed p t (IsValidState t st) signal weak strong
+  pub passed_step : check_step p t st (length signal) (length weak) (length strong) ≡ accepted → Passed p t (IsValidState t st) signal weak strong
   unfolding check_step
   passed_step h =
       let (input, rest) = passed_both (check_input p t) _ h in
       let (state, last) = passed_both (check_state t st) _ rest in
-      let (columns, _) = passed_unless 7 (good_columns t (length signal) (length weak) (length strong)) Accepted last in
+      let (columns, _) = passed_unless 7 (good_columns t (length signal) (length weak) (length strong)) accepted last in
       record { accepted = input; state = state; outputs = outputs (rows t) signal weak strong columns }
 
-  pub passed_tick : (now asked : ℕ) → check_tick p t st now asked (length signal) (length weak) (length strong) ≡ Accepted
+  pub passed_tick : (now asked : ℕ) → check_tick p t st now asked (length signal) (length weak) (length strong) ≡ accepted
       → Passed p t (IsValidState t st) signal weak strong
   unfolding check_tick
   passed_tick now asked h = passed_step (passed_both (check_step p t st (length signal) (length weak) (length strong)) _ h).0

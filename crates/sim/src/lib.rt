@@ -6,7 +6,6 @@ ghost use Rattle.places.specs.Places.{cell};
 ghost use Rattle.updates.specs.Calls.{Fresh, Ticks, Switches};
 
 use places::Pos;
-use refusals::Checked;
 use updates::check;
 use world::row::rows;
 
@@ -29,8 +28,8 @@ pub fn fresh(
         weak.len(),
         strong.len(),
     );
-    if let Checked::Refused { number: _, row: _ } = checked {
-        return refusals::answer(checked, 0);
+    if let Err(refused) = checked {
+        return refused.answer();
     }
     let mut devices = [0u8; 1024];
     let n = rows(table);
@@ -68,8 +67,8 @@ pub fn tick(
         weak.len(),
         strong.len(),
     );
-    if let Checked::Refused { number: _, row: _ } = checked {
-        return refusals::answer(checked, 0);
+    if let Err(refused) = checked {
+        return refused.answer();
     }
     let mut devices = [0u8; 1024];
     let n = rows(table);
@@ -108,8 +107,8 @@ pub fn switch(
         weak.len(),
         strong.len(),
     );
-    if let Checked::Refused { number: _, row: _ } = checked {
-        return refusals::answer(checked, 0);
+    if let Err(refused) = checked {
+        return refused.answer();
     }
     switching::set_powered(table, Pos::new(x, y, z), powered);
     let mut devices = [0u8; 1024];

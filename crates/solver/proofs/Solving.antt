@@ -7,23 +7,20 @@ use Rattle.network.specs.Network.{Network, strong_of}
 use Rattle.network.specs.Settled as Network
 use Rattle.network.specs.Laws.Loop.{Answered}
 use Rattle.network.specs.Laws.SameEdges.{rounds_same, settled_same}
-use Rattle.world.specs.Rows.{rows}
 use Rattle.refusals.specs.Accepted.{Table}
 use Rattle.emitted.specs.Emitted.{emitted}
 use Rattle.electrical.specs.Answer.{rounds_of, settled}
 use Rattle.circuit.specs.Circuit.{circuit}
 use Rattle.prepare.specs.Classes.{Prepared}
-use Rattle.prepare.proofs.Rows.{length_classes}
-use Rattle.prepare.proofs.Table.{prepared_shaped, circuit_of_table}
+use Rattle.prepare.proofs.Table.{circuit_of_table}
 use Rattle.keys.proofs.Settled.{strong_settled}
-use Rattle.rounds.specs.declared.Outcome.{Outcome}
+use Rattle.levels.specs.declared.signal.Rounds.{Rounds}
+use Rattle.std.specs.Prelude.{Option}
 use Rattle.rounds.specs.Outcome.{outcome_of, written_by, RunsRounds, Solves}
-use Rattle.rounds.specs.Prepared.{Outputs}
 use Rattle.rounds.proofs.Rounds.{solves}
-use Rattle.solver.specs.Ways.{Columns}
 
 -- the columns s, w and g are settled in k rounds, and written where the limit is enough
-pub keyed : {N : Network} {e s w g signal weak strong signal' weak' strong' : Column} {k limit : ℕ} {r : Outcome} → Answered N e g k s w
+pub keyed : {N : Network} {e s w g signal weak strong signal' weak' strong' : Column} {k limit : ℕ} {r : Option Rounds} → Answered N e g k s w
     → r ≡ outcome_of k limit → signal' ≡ written_by r signal s → weak' ≡ written_by r weak w → strong' ≡ written_by r strong g
     → Solves (Network.rounds_of N e) (Network.settled N e) limit signal weak strong signal' weak' strong' r
 keyed {N} {e} {s} {w} {g} {limit = limit} {r = r} a o p q t = solves runs g_is p q t
@@ -35,19 +32,8 @@ keyed {N} {e} {s} {w} {g} {limit = limit} {r = r} a o p q t = solves runs g_is p
     runs = record { answer = o ∙ ap (λ n. outcome_of n limit) (sym a.rounds); levels = λ _. rw (← g_is, a.rounds) a }
 
 module _ {p t : Bytes} (table : Table t) {near class : Column} (c : Prepared p t near class) where
-  -- the columns are those of a network with the table's rows
-  pub columns : {signal weak strong : Column} → Outputs (rows t) signal weak strong → Columns t near class signal weak strong
-  columns o =
-      record {
-        shaped = rw (c.near_is, c.class_is) (prepared_shaped p t table);
-        class_rows = rw c.class_is (length_classes p t);
-        signal_rows = o.signal_rows;
-        weak_rows = o.weak_rows;
-        strong_rows = o.strong_rows;
-      }
-
-  -- which settles as the table does
-  pub table_solves : (d : Column) {signal weak strong signal' weak' strong' : Column} {limit : ℕ} {r : Outcome}
+  -- the columns settle as the table does
+  pub table_solves : (d : Column) {signal weak strong signal' weak' strong' : Column} {limit : ℕ} {r : Option Rounds}
       → Solves (Network.rounds_of (circuit near class) (emitted t d)) (Network.settled (circuit near class) (emitted t d)) limit signal weak strong signal' weak' strong' r
       → Solves (rounds_of p t d) (settled p t d) limit signal weak strong signal' weak' strong' r
   unfolding rounds_of settled

@@ -1,11 +1,9 @@
 -- The number that a call answers, by how settling ends.
 -- Assumes nothing.
-use Rattle.std.specs.Prelude.{ℕ}
-use Rattle.refusals.specs.declared.Checked.TheVariants.{Refused}
-use Rattle.refusals.specs.Check.{answer_of}
-use Rattle.rounds.specs.declared.Outcome.{Outcome}
-use Rattle.rounds.specs.declared.Outcome.TheVariants.{Settled, Unsettled}
+use Rattle.std.specs.Prelude.{ℕ, Option, Some, None}
+use Rattle.refusals.specs.Check.{refused, answer_of}
+use Rattle.levels.specs.declared.signal.Rounds.{Rounds}
 
-abbrev pub answer_by : Outcome → ℕ
-answer_by (Settled rounds) = rounds.count
-answer_by Unsettled = answer_of (Refused 8 0) 0
+abbrev pub answer_by : Option Rounds → ℕ
+answer_by (Some rounds) = rounds.count
+answer_by None = answer_of (refused 8 0) 0

@@ -1,55 +1,33 @@
 // Settling: `solve_instantaneous`, by one pass over the keys of the dust, level by level, or round by round. What either asks of the table is prepared first.
 #![tactic(auto)]
 
-mod keyed;
 mod ways;
 
-ghost use Rattle.std.specs.Prelude.{◌≡◌, ◌*◌, length};
+ghost use Rattle.std.specs.Prelude.{◌≡◌};
 ghost use Rattle.world.specs.Rows.{rows as rows_of};
-ghost use Rattle.refusals.specs.declared.Checked.{Checked};
-ghost use Rattle.electrical.specs.Answer.{rounds_of, settled, check_call, Settles};
-ghost use Rattle.classes.specs.Towards.{places};
+ghost use Rattle.refusals.specs.Accepted.{Table};
+ghost use Rattle.electrical.specs.Answer.{rounds_of, settled, Settles};
+ghost use Rattle.rounds.specs.Prepared.{Outputs};
 ghost use Rattle.rounds.specs.Outcome.{Solves};
 ghost use Rattle.solver.specs.Answer.{answer_by};
 
-use crate::ways::settle_devices;
+use crate::ways::{ByRounds, Keys, Way};
+use circuit::Network;
 use electrical::check_call;
+use emitted::output::fill_emitted;
+use levels::signal::Rounds;
 use prepare::prepare;
-use refusals::{Checked, answer};
-use rounds::Outcome;
+use refusals::Refused;
 use world::row::rows;
 
-// How the settled numbers are found: both ways have the same contract.
-#[derive(Drop)]
-pub enum Way {
-    Keys,
-    Rounds,
-}
-
-fn solve_in(
-    way: Way,
-    profile: &[u8],
-    table: &[u8],
-    devices: &[u8],
-    limit: u32,
-    near: &mut [u16],
-    class: &mut [u32],
-    signal: &mut [u8],
-    weak: &mut [u8],
-    strong: &mut [u8],
-) -> Outcome
-    requires { (check_call profile.now table.now devices.now (length signal.old) (length weak.old) (length strong.old) ≡ Checked.Accepted) × (length near.old ≡ places * rows_of table.now) × (length class.old ≡ rows_of table.now) }
-    ensures { Solves (rounds_of profile.now table.now devices.now) (settled profile.now table.now devices.now) limit signal.old weak.old strong.old signal.new weak.new strong.new result }
-{
-    prepare(profile, table, near, class);
-    settle_devices(
-        way, table, near, class, devices, limit, signal, weak, strong,
-    )
-}
+// A limit below the rounds needed: row 0.
+const UNSETTLED: Refused = Refused {
+    number: Refused::UNSETTLED,
+    row: 0,
+};
 
 // Settles a table whose inputs passed their checks.
-fn solve(
-    way: Way,
+fn solve<W: Way>(
     profile: &[u8],
     table: &[u8],
     devices: &[u8],
@@ -57,21 +35,24 @@ fn solve(
     signal: &mut [u8],
     weak: &mut [u8],
     strong: &mut [u8],
-) -> Outcome
-    requires { check_call profile.now table.now devices.now (length signal.old) (length weak.old) (length strong.old) ≡ Checked.Accepted }
+) -> Option<Rounds>
+    requires table { Table table.now }
+    requires outputs { Outputs (rows_of table.now) signal.old weak.old strong.old }
     ensures { Solves (rounds_of profile.now table.now devices.now) (settled profile.now table.now devices.now) limit signal.old weak.old strong.old signal.new weak.new strong.new result }
 {
     let n = rows(table);
     let mut near = [0u16; 7168];
     let mut class = [0u32; 1024];
-    solve_in(
-        way,
-        profile,
-        table,
-        devices,
+    let mut emitted = [0u8; 1024];
+    let near = &mut near[..n * 7];
+    let class = &mut class[..n];
+    let emitted = &mut emitted[..n];
+    prepare(profile, table, near, class);
+    fill_emitted(table, devices, emitted);
+    W::settle(
+        Network { near, class },
+        emitted,
         limit,
-        &mut near[..n * 7],
-        &mut class[..n],
         signal,
         weak,
         strong,
@@ -79,18 +60,17 @@ fn solve(
 }
 
 // The number that a call answers: the rounds, or number 8.
-fn answer_by(outcome: Outcome) -> u32
-    ensures { result ≡ answer_by outcome }
+fn answer_by(rounds: Option<Rounds>) -> u32
+    ensures { result ≡ answer_by rounds }
 {
-    match outcome {
-        Outcome::Settled { rounds } => rounds.count,
-        Outcome::Unsettled => answer(Checked::Refused { number: 8, row: 0 }, 0),
+    match rounds {
+        Some(rounds) => rounds.count,
+        None => UNSETTLED.answer(),
     }
 }
 
 // Settles a table with a device column: fills the three columns and answers the rounds, or writes nothing and answers the refusal.
-fn settle(
-    way: Way,
+fn settle<W: Way>(
     profile: &[u8],
     table: &[u8],
     devices: &[u8],
@@ -109,10 +89,10 @@ fn settle(
         weak.len(),
         strong.len(),
     );
-    if let Checked::Refused { number: _, row: _ } = checked {
-        return answer(checked, 0);
+    if let Err(refused) = checked {
+        return refused.answer();
     }
-    answer_by(solve(way, profile, table, devices, limit, signal, weak, strong))
+    answer_by(solve::<W>(profile, table, devices, limit, signal, weak, strong))
 }
 
 // By one pass over the keys.
@@ -127,16 +107,7 @@ pub fn solve_instantaneous(
 ) -> u32
     ensures { Settles profile.now table.now devices.now limit signal.old weak.old strong.old signal.new weak.new strong.new result }
 {
-    settle(
-        Way::Keys,
-        profile,
-        table,
-        devices,
-        limit,
-        signal,
-        weak,
-        strong,
-    )
+    settle::<Keys>(profile, table, devices, limit, signal, weak, strong)
 }
 
 // Round by round, as document 01 names it.
@@ -151,14 +122,5 @@ pub fn solve_by_rounds(
 ) -> u32
     ensures { Settles profile.now table.now devices.now limit signal.old weak.old strong.old signal.new weak.new strong.new result }
 {
-    settle(
-        Way::Rounds,
-        profile,
-        table,
-        devices,
-        limit,
-        signal,
-        weak,
-        strong,
-    )
+    settle::<ByRounds>(profile, table, devices, limit, signal, weak, strong)
 }

@@ -1,84 +1,80 @@
-// Settling over the prepared columns, by either way.
+// The two ways in which the settled numbers are found: both have the same contract.
 ghost use Rattle.std.specs.Prelude.{◌≡◌, length};
 ghost use Rattle.network.specs.Settled.{rounds_of, settled};
-ghost use Rattle.world.specs.Rows.{rows as rows_of};
-ghost use Rattle.emitted.specs.Emitted.{emitted as emittedBy};
-ghost use Rattle.circuit.specs.Circuit.{Shaped, circuit};
+ghost use Rattle.circuit.specs.Circuit.{circuit};
 ghost use Rattle.keys.specs.Settle.{Outputs};
-ghost use Rattle.rounds.specs.Outcome.{Solves};
-ghost use Rattle.solver.specs.Ways.{Columns};
+ghost use Rattle.rounds.specs.Outcome.{outcome_of, Solves};
 
-use crate::Way;
-use crate::keyed::settle_within;
-use emitted::output::fill_emitted;
-use rounds::Outcome;
-use world::row::rows;
+use circuit::Network;
+use levels::signal::Rounds;
+use rounds::settle::write;
 
-fn settle_by(
-    way: Way,
-    near: &[u16],
-    class: &[u32],
-    emitted: &[u8],
-    limit: u32,
-    signal: &mut [u8],
-    weak: &mut [u8],
-    strong: &mut [u8],
-) -> Outcome
-    requires { Shaped near.now class.now × Outputs (length class.now) emitted.now signal.old weak.old strong.old }
-    ensures { Solves (rounds_of (circuit near.now class.now) emitted.now) (settled (circuit near.now class.now) emitted.now) limit signal.old weak.old strong.old signal.new weak.new strong.new result }
+pub trait Way {
+    // Settles a network with its emitted levels, within a limit: fills the three columns, or leaves them.
+    fn settle(
+        network: Network,
+        emitted: &[u8],
+        limit: u32,
+        signal: &mut [u8],
+        weak: &mut [u8],
+        strong: &mut [u8],
+    ) -> Option<Rounds>
+        requires { Outputs (length network.class.now) emitted.now signal.old weak.old strong.old }
+        ensures { Solves (rounds_of (circuit network.entry.near.now network.entry.class.now) emitted.now) (settled (circuit network.entry.near.now network.entry.class.now) emitted.now) limit signal.old weak.old strong.old signal.new weak.new strong.new result };
+}
+
+// By one pass over the keys of the dust.
+pub struct Keys;
+
+// Round by round.
+pub struct ByRounds;
+
+// The rounds, unless the limit is below them.
+#[tactic(auto, unfolding(rounds::specs::Outcome::outcome_of))]
+fn outcome_of(rounds: u32, limit: u32) -> Option<Rounds>
+    ensures { result ≡ outcome_of rounds limit }
 {
-    match way {
-        Way::Keys => settle_within(near, class, emitted, limit, signal, weak, strong),
-        Way::Rounds => { rounds::settle::settle(near, class, emitted, limit, signal, weak, strong) }
+    if rounds <= limit {
+        Some(Rounds { count: rounds })
+    } else {
+        None
     }
 }
 
-fn settle_emitted(
-    way: Way,
-    table: &[u8],
-    near: &[u16],
-    class: &[u32],
-    devices: &[u8],
-    emitted: &mut [u8],
-    limit: u32,
-    signal: &mut [u8],
-    weak: &mut [u8],
-    strong: &mut [u8],
-) -> Outcome
-    requires { Columns table.now near.now class.now signal.old weak.old strong.old × (length emitted.old ≡ rows_of table.now) }
-    ensures { Solves (rounds_of (circuit near.now class.now) (emittedBy table.now devices.now)) (settled (circuit near.now class.now) (emittedBy table.now devices.now)) limit signal.old weak.old strong.old signal.new weak.new strong.new result }
-{
-    fill_emitted(table, devices, emitted);
-    settle_by(way, near, class, emitted, limit, signal, weak, strong)
+impl Way for Keys {
+    fn settle(
+        network: Network,
+        emitted: &[u8],
+        limit: u32,
+        signal: &mut [u8],
+        weak: &mut [u8],
+        strong: &mut [u8],
+    ) -> Option<Rounds> {
+        let n = network.class.len();
+        let mut s1 = [0u8; 1024];
+        let mut w1 = [0u8; 1024];
+        let mut charged = [0u8; 1024];
+        let s1 = &mut s1[..n];
+        let w1 = &mut w1[..n];
+        let charged = &mut charged[..n];
+        let rounds = outcome_of(
+            keys::settle::settle(network, emitted, s1, w1, charged),
+            limit,
+        );
+        write(rounds, s1, w1, charged, signal, weak, strong);
+        rounds
+    }
 }
 
-// Settles the levels that the devices emit.
-pub fn settle_devices(
-    way: Way,
-    table: &[u8],
-    near: &[u16],
-    class: &[u32],
-    devices: &[u8],
-    limit: u32,
-    signal: &mut [u8],
-    weak: &mut [u8],
-    strong: &mut [u8],
-) -> Outcome
-    requires { Columns table.now near.now class.now signal.old weak.old strong.old }
-    ensures { Solves (rounds_of (circuit near.now class.now) (emittedBy table.now devices.now)) (settled (circuit near.now class.now) (emittedBy table.now devices.now)) limit signal.old weak.old strong.old signal.new weak.new strong.new result }
-{
-    let n = rows(table);
-    let mut emitted = [0u8; 1024];
-    settle_emitted(
-        way,
-        table,
-        near,
-        class,
-        devices,
-        &mut emitted[..n],
-        limit,
-        signal,
-        weak,
-        strong,
-    )
+impl Way for ByRounds {
+    fn settle(
+        network: Network,
+        emitted: &[u8],
+        limit: u32,
+        signal: &mut [u8],
+        weak: &mut [u8],
+        strong: &mut [u8],
+    ) -> Option<Rounds> {
+        rounds::settle::settle(network, emitted, limit, signal, weak, strong)
+    }
 }

@@ -1,44 +1,29 @@
 // The fields of a row's sixteen bytes, and which values are within the layout.
-ghost use Rattle.std.specs.Prelude.{◌≡◌, ◌<◌};
+ghost use Rattle.std.specs.Prelude.{◌≡◌};
 ghost use Rattle.states.specs.Row.{toggles_of, delay_of, good_queue, good_light, good_torch, good_had_power, good_rest, good_state};
 
 use crate::bits::{is_candidate, two_to};
 use blocks::kind;
-use columns::byte_at;
+use columns::{all_indices, byte_at};
 use emitted::device::good_device;
 use world::row::kind_of;
 
-// A byte as a word.
-fn wide(b: u8) -> u32
-    ensures { (result ≡ b) × (result < 256) }
-{
-    b as u32
-}
-
 // The delay of a repeater: 1 if missing, and clamped to 1 to 4.
+#[tactic(auto, unfolding(crate::specs::Row::delay_of))]
 pub fn delay_of(table: &[u8], row: usize) -> u8
     ensures { result ≡ delay_of table.now row }
 {
-    let given = world::row::delay_or(table, row, 1);
-    if given < 1 {
-        return 1;
-    }
-    if 4 < given {
-        return 4;
-    }
-    given
+    world::row::delay_or(table, row, 1).clamp(1, 4)
 }
 
 // The torch's toggles: bit j for a toggle j ticks ago.
 pub fn toggles_of(sixteen: &[u8]) -> u32
     ensures { result ≡ toggles_of sixteen.now }
 {
-    wide(byte_at(sixteen, 4))
-        + wide(byte_at(sixteen, 5)) * 256
-        + wide(byte_at(sixteen, 6)) * 65536
-        + wide(byte_at(sixteen, 7)) * 16777216
+    words::word(words::from(sixteen, 4))
 }
 
+#[tactic(auto, using(crate::proofs::Powers::delay_range), unfolding(crate::specs::Row::good_queue))]
 fn good_queue(table: &[u8], row: usize, sixteen: &[u8]) -> bool
     ensures { result ≡ good_queue table.now row sixteen.now }
 {
@@ -50,21 +35,20 @@ fn good_queue(table: &[u8], row: usize, sixteen: &[u8]) -> bool
     queue == 0
 }
 
+#[tactic(auto, unfolding(crate::specs::Row::good_light))]
 fn good_light(table: &[u8], row: usize, sixteen: &[u8]) -> bool
     ensures { result ≡ good_light table.now row sixteen.now }
 {
-    let kind = kind_of(table, row);
     let lit = byte_at(sixteen, 2);
     let left = byte_at(sixteen, 3);
-    if kind == kind::REDSTONE_LAMP {
-        return (lit <= 1) & ((left <= 2) & ((lit == 1) | (left == 0)));
+    match kind_of(table, row) {
+        kind::REDSTONE_LAMP => (lit <= 1) & ((left <= 2) & ((lit == 1) | (left == 0))),
+        kind::COPPER_BULB => (lit <= 1) & (left == 0),
+        _ => (lit == 0) & (left == 0),
     }
-    if kind == kind::COPPER_BULB {
-        return (lit <= 1) & (left == 0);
-    }
-    (lit == 0) & (left == 0)
 }
 
+#[tactic(auto, unfolding(crate::specs::Row::good_torch))]
 fn good_torch(table: &[u8], row: usize, sixteen: &[u8]) -> bool
     ensures { result ≡ good_torch table.now row sixteen.now }
 {
@@ -77,6 +61,7 @@ fn good_torch(table: &[u8], row: usize, sixteen: &[u8]) -> bool
     (toggles == 0) & (candidate == 0)
 }
 
+#[tactic(auto, unfolding(crate::specs::Row::good_had_power))]
 fn good_had_power(table: &[u8], row: usize, sixteen: &[u8]) -> bool
     ensures { result ≡ good_had_power table.now row sixteen.now }
 {
@@ -91,17 +76,11 @@ fn good_had_power(table: &[u8], row: usize, sixteen: &[u8]) -> bool
 fn good_rest(sixteen: &[u8]) -> bool
     ensures { result ≡ good_rest sixteen.now }
 {
-    let mut k = 0;
-    while k < 6 {
-        if byte_at(sixteen, 10 + k) != 0 {
-            return false;
-        }
-        k += 1;
-    }
-    true
+    all_indices(6, |k| byte_at(sixteen, 10 + k) == 0)
 }
 
 // Whether sixteen bytes are within the layout, for this row.
+#[tactic(auto, unfolding(crate::specs::Row::good_state))]
 pub fn good_state(table: &[u8], row: usize, sixteen: &[u8]) -> bool
     ensures { result ≡ good_state table.now row sixteen.now }
 {

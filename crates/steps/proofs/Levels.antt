@@ -20,10 +20,10 @@ use Rattle.world.specs.Rows.{kind_of, is_subtract}
 use Rattle.world.specs.Find.{find_at}
 use Rattle.connectivity.specs.Ports.{input_of}
 use Rattle.emitted.proofs.Devices.{other_low}
-use Rattle.levels.specs.Numbers.{Numbers}
+use Rattle.levels.specs.Numbers.{Numbers, electrical_level}
 use Rattle.states.specs.Row.{device_of}
 use Rattle.states.proofs.Parts.{Parts}
-use Rattle.comparator.specs.Step.{electrical_level, compared, next_comparator}
+use Rattle.comparator.specs.Step.{compared, next_comparator}
 use Rattle.devices.specs.Step.{device_row}
 use Rattle.steps.proofs.Valid.{device_good}
 

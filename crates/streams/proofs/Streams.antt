@@ -15,8 +15,7 @@ use Rattle.columns.proofs.Members.{none_in}
 use Rattle.words.specs.Words.{word}
 use Rattle.streams.specs.declared.Ending.{Ending}
 use Rattle.streams.specs.declared.Ending.TheVariants.{Whole, Cut, Count}
-use Rattle.streams.specs.declared.Front.{Front}
-use Rattle.streams.specs.declared.Front.TheVariants.{Table, Ends}
+use Rattle.std.proofs.Common.{Option, Some, None}
 use Rattle.streams.specs.Stream.{table_bytes, bytes_to_read, first_table, later_tables, open_front, full_ending, front_of, Stream, ends_as, led, go_on, read_within}
 
 -- ---- what stands at the front of s
@@ -35,11 +34,11 @@ pub record IsMany (s : Bytes) : Type 0 where
 -- the end of a reading that is not whole
 pub record IsBroken (s : Bytes) : Type 0 where
   pub ending : Ending
-  pub is : open_front s ≡ Ends ending
+  pub is : open_front s ≡ Some ending
   pub broken : ¬ (ending ≡ Whole)
   pub many : ending ≡ Count → IsMany s
 
-pub table_front : {s : Bytes} → IsTable s → open_front s ≡ Table
+pub table_front : {s : Bytes} → IsTable s → open_front s ≡ None
 table_front {s} t =
     rw (ne_eqb (length s) 0 (λ e. omega (arith, t.counted)), le-ltb (length s) 4 t.counted, le-ltb 1024 (word s) t.few, le-ltb (length s) (4 + table_bytes s) t.there)
 
@@ -76,11 +75,11 @@ front_view s =
 front_open : (left : ℕ) (s : Bytes) → front_of (suc left) s ≡ open_front s
 front_open left s = rw (ne_eqb (suc left) 0 (λ e. omega arith))
 
-pub front_table : (left : ℕ) (s : Bytes) → front_of left s ≡ Table → (0 < left) × IsTable s
+pub front_table : (left : ℕ) (s : Bytes) → front_of left s ≡ None → (0 < left) × IsTable s
 front_table zero s h = let z : ◌≡◌ {A = ℕ} 0 1 = cc in absurd (omega arith)
 front_table (suc left) s h = (omega arith, go (front_view s))
   where
-    opened : open_front s ≡ Table
+    opened : open_front s ≡ None
     opened = sym (front_open left s) ∙ h
 
     go : (length s ≡ 0) ⊎ (IsTable s ⊎ IsBroken s) → IsTable s
@@ -88,7 +87,7 @@ front_table (suc left) s h = (omega arith, go (front_view s))
     go (inr (inl t)) = t
     go (inr (inr k)) = let z : ◌≡◌ {A = ℕ} 0 1 = cc (rw k.is at opened) in absurd (omega arith)
 
-pub front_ends : (left : ℕ) (s : Bytes) (e : Ending) → front_of left s ≡ Ends e → read_within left s ≡ ends_as e
+pub front_ends : (left : ℕ) (s : Bytes) (e : Ending) → front_of left s ≡ Some e → read_within left s ≡ ends_as e
 unfolding read_within
 front_ends zero s e h = let same : full_ending s ≡ e = cc in ap ends_as same
 front_ends (suc left) s e h = rw (sym (front_open left s) ∙ h)
@@ -101,10 +100,10 @@ unfolding read_within
 few_tables zero s = zero-le
 few_tables (suc n) s = go (open_front s) (few_tables n (later_tables s))
   where
-    go : (f : Front) → length (read_within n (later_tables s)).tables ≤ n
+    go : (f : Option Ending) → length (read_within n (later_tables s)).tables ≤ n
         → length (go_on f (first_table s) (read_within n (later_tables s))).tables ≤ suc n
-    go Table h = omega arith
-    go (Ends e) h = zero-le
+    go None h = omega arith
+    go (Some e) h = zero-le
 
 -- a table, and what is read of the later ones
 pub read_table : (n : ℕ) {s : Bytes} → IsTable s → read_within (suc n) s ≡ led (first_table s) (read_within n (later_tables s))
@@ -187,14 +186,14 @@ module _ (t : Bytes) (m : ℕ) (x y : Stream) where
   enough_later (inl l) = inl (omega arith)
   enough_later (inr (l, whole)) = inr (omega arith, whole)
 
-  same_going_on : (f : Front) → Enough (suc m) (go_on f t y) → (Enough m y → x ≡ y) → go_on f t x ≡ go_on f t y
-  same_going_on Table h r = ap (led t) (r (enough_later h))
-  same_going_on (Ends e) h r = refl
+  same_going_on : (f : Option Ending) → Enough (suc m) (go_on f t y) → (Enough m y → x ≡ y) → go_on f t x ≡ go_on f t y
+  same_going_on None h r = ap (led t) (r (enough_later h))
+  same_going_on (Some e) h r = refl
 
-  same_tables : (f : Front) → length (go_on f t y).tables ≤ suc m → (length y.tables ≤ m → x.tables ≡ y.tables)
+  same_tables : (f : Option Ending) → length (go_on f t y).tables ≤ suc m → (length y.tables ≤ m → x.tables ≡ y.tables)
       → (go_on f t x).tables ≡ (go_on f t y).tables
-  same_tables Table h r = ap (λ ts. t ∷ ts) (r (omega arith))
-  same_tables (Ends e) h r = refl
+  same_tables None h r = ap (λ ts. t ∷ ts) (r (omega arith))
+  same_tables (Some e) h r = refl
 
 pub read_enough : (m n : ℕ) (s : Bytes) → m ≤ n → Enough m (read_within n s) → read_within m s ≡ read_within n s
 unfolding read_within
@@ -240,7 +239,7 @@ read_full (suc m) (suc n) s l e broken = go (front_view s) (read_full m n (later
 
 -- ---- a reading that has stopped
 
-many_front : {s : Bytes} → IsMany s → open_front s ≡ Ends Count
+many_front : {s : Bytes} → IsMany s → open_front s ≡ Some Count
 many_front {s} m = rw (ne_eqb (length s) 0 (λ e. omega (arith, m.counted)), le-ltb (length s) 4 m.counted, lt-ltb 1024 (word s) m.many)
 
 many_append : (a b : Bytes) → IsMany a → IsMany (a ++ b)

@@ -1,12 +1,10 @@
 -- A stream of tables, and how its reading ends. What stands in quotation marks is document 02's, Change 1.
 -- Assumes nothing.
-use Rattle.std.specs.Prelude.{cond, ◌≡◌, List, [], ◌∷◌, ◌++◌, ℕ, zero, suc, ◌+◌, ◌*◌, ◌/◌, ◌≤◌, length, take, drop, eqb, ltb}
+use Rattle.std.specs.Prelude.{cond, ◌≡◌, List, [], ◌∷◌, ◌++◌, ℕ, zero, suc, ◌+◌, ◌*◌, ◌/◌, ◌≤◌, length, take, drop, eqb, ltb, Option, Some, None}
 use Rattle.columns.specs.Column.{Bytes}
 use Rattle.words.specs.Words.{word, four_bytes}
 use Rattle.streams.specs.declared.Ending.{Ending}
 use Rattle.streams.specs.declared.Ending.TheVariants.{Whole, Cut, Count}
-use Rattle.streams.specs.declared.Front.{Front}
-use Rattle.streams.specs.declared.Front.TheVariants.{Table, Ends}
 
 -- ---- "tables, each led by its row count in four bytes, low byte first"
 
@@ -26,22 +24,22 @@ later_tables s = drop (4 + table_bytes s) s
 abbrev pub bytes_to_read : Bytes → ℕ
 bytes_to_read s = cond (ltb 1024 (word s)) 0 (table_bytes s)
 
--- ---- what stands at the front of the bytes that are left
+-- ---- what stands at the front of the bytes that are left: how the reading ends there, or none where a table stands there whole
 
 -- Where a table may be read. "Reading ends as cut inside a table or its count, and as count at a row count above 1,024"
-abbrev pub open_front : Bytes → Front
+abbrev pub open_front : Bytes → Option Ending
 open_front s =
-    cond (eqb (length s) 0) (Ends Whole)
-    (cond (ltb (length s) 4) (Ends Cut)
-    (cond (ltb 1024 (word s)) (Ends Count) (cond (ltb (length s) (4 + table_bytes s)) (Ends Cut) Table)))
+    cond (eqb (length s) 0) (Some Whole)
+    (cond (ltb (length s) 4) (Some Cut)
+    (cond (ltb 1024 (word s)) (Some Count) (cond (ltb (length s) (4 + table_bytes s)) (Some Cut) None)))
 
 -- Where none may: "or where any byte follows the 1,000,000th table, which goes before cut"
 abbrev pub full_ending : Bytes → Ending
 full_ending s = cond (eqb (length s) 0) Whole Count
 
 -- where so many tables more may be read
-abbrev pub front_of : ℕ → Bytes → Front
-front_of left s = cond (eqb left 0) (Ends (full_ending s)) (open_front s)
+abbrev pub front_of : ℕ → Bytes → Option Ending
+front_of left s = cond (eqb left 0) (Some (full_ending s)) (open_front s)
 
 -- ---- the whole stream
 
@@ -58,9 +56,9 @@ abbrev pub led : Bytes → Stream → Stream
 led t s = record { tables = t ∷ s.tables; ending = s.ending }
 
 -- the table and then the later ones, or the end
-abbrev pub go_on : Front → Bytes → Stream → Stream
-go_on Table t later = led t later
-go_on (Ends e) t later = ends_as e
+abbrev pub go_on : Option Ending → Bytes → Stream → Stream
+go_on None t later = led t later
+go_on (Some e) t later = ends_as e
 
 -- what is read of s where so many tables may be. "A table that is not read whole is not counted at all."
 unfoldable pub read_within : ℕ → Bytes → Stream

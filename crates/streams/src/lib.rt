@@ -16,18 +16,11 @@ pub const MOST_ROWS: usize = 1024;
 pub const COUNT_BYTES: usize = 4;
 
 // How the reading of a stream ends.
-#[derive(Drop)]
+#[derive(Clone, Copy, PartialEq, Eq)]
 pub enum Ending {
     Whole,
     Cut,
     Count,
-}
-
-// What stands at the front: a table that is there whole, or the end of the reading.
-#[derive(Drop)]
-pub enum Front {
-    Table,
-    Ends(Ending),
 }
 
 // The rows that the table at the front is said to have.
@@ -49,42 +42,42 @@ pub fn bytes_to_read(count: &[u8]) -> usize
     rows * 32
 }
 
-// Where no table more may be read.
+// How the reading ends where no table more may be read.
 fn full_ending(s: &[u8]) -> Ending
     ensures { result ≡ full_ending s.now }
 {
-    if s.len() == 0 {
+    if s.is_empty() {
         return Ending::Whole;
     }
     Ending::Count
 }
 
-// Where a table may be read.
-fn open_front(s: &[u8]) -> Front
+// The same where a table may be read.
+fn open_front(s: &[u8]) -> Option<Ending>
     ensures { result ≡ open_front s.now }
 {
-    if s.len() == 0 {
-        return Front::Ends(Ending::Whole);
+    if s.is_empty() {
+        return Some(Ending::Whole);
     }
     if s.len() < COUNT_BYTES {
-        return Front::Ends(Ending::Cut);
+        return Some(Ending::Cut);
     }
     let rows = row_count(s);
     if MOST_ROWS < rows {
-        return Front::Ends(Ending::Count);
+        return Some(Ending::Count);
     }
     if s.len() < COUNT_BYTES + rows * 32 {
-        return Front::Ends(Ending::Cut);
+        return Some(Ending::Cut);
     }
-    Front::Table
+    None
 }
 
-// What stands at the front where so many tables more may be read.
-pub fn front_of(left: u64, s: &[u8]) -> Front
+// How the reading ends at the front where so many tables more may be read: not at all where a table stands there whole.
+pub fn front_of(left: u64, s: &[u8]) -> Option<Ending>
     ensures { result ≡ front_of left s.now }
 {
     if left == 0 {
-        return Front::Ends(full_ending(s));
+        return Some(full_ending(s));
     }
     open_front(s)
 }

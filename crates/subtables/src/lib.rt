@@ -5,7 +5,6 @@ ghost use Rattle.std.specs.Prelude.{◌≡◌, ◌+◌, ◌*◌, ◌≤◌, leng
 ghost use borrow.Rule.Slice.PartMut.{put_mid};
 ghost use Rattle.columns.specs.Column.{part};
 
-use columns::copy;
 use world::row;
 
 // Copies a row of a table to 32 bytes.
@@ -13,8 +12,7 @@ pub fn copy_row(table: &[u8], row: usize, out: &mut [u8])
     requires { (row * 32 + 32 ≤ length table.now) × (length out.old ≡ 32) }
     ensures { out.new ≡ part 32 table.now row }
 {
-    let start = row * row::WIDTH;
-    copy(&table[start..start + row::WIDTH], out);
+    out.copy_from_slice(row::row_in(table, row));
 }
 
 // Copies a row of a table over a row of another.

@@ -5,6 +5,7 @@ ghost use Rattle.std.specs.Prelude.{◌≡◌, ◌<◌, length};
 ghost use Rattle.columns.specs.First.{all_below};
 ghost use Rattle.support_answers.specs.Answers.{listed, entry_agrees, is_listed, supports_agree_in, supports_agree, supports_right};
 
+use columns::all_indices;
 use records::{entry, has_parts, number, slice_of};
 
 // What a column is filled with before it is lent.
@@ -17,34 +18,20 @@ fn listed(list: &[u8], i: usize) -> u32
     if i < list.len() / 2 {
         return entry(list, i);
     }
-    UNTOUCHED as u32
-}
-
-fn wide(n: u16) -> u32
-    ensures { result ≡ n }
-{
-    n as u32
+    u32::from(UNTOUCHED)
 }
 
 fn entry_agrees(column: &[u16], list: &[u8], i: usize) -> bool
     requires { i < length column.now }
     ensures { result ≡ entry_agrees column.now list.now i }
 {
-    wide(column[i]) == listed(list, i)
+    u32::from(column[i]) == listed(list, i)
 }
 
 fn all_entries_agree(column: &[u16], list: &[u8]) -> bool
     ensures { result ≡ all_below (entry_agrees column.now list.now) (length column.now) }
 {
-    let mut i = 0;
-    while i < column.len() {
-        if entry_agrees(column, list, i) {
-            i += 1;
-        } else {
-            return false;
-        }
-    }
-    true
+    all_indices(column.len(), |i| entry_agrees(column, list, i))
 }
 
 // Whether a column has the list at its front and is untouched behind it.

@@ -10,8 +10,7 @@ use lib.Dec.{eqb}
 use Rattle.columns.specs.Column.{Bytes, Column, at_front}
 use Rattle.columns.proofs.Indices.{length_indices}
 use Rattle.world.specs.Rows.{rows}
-use Rattle.refusals.specs.declared.Checked.TheVariants.{Accepted}
-use Rattle.refusals.specs.Check.{check_input}
+use Rattle.refusals.specs.Check.{accepted, check_input}
 use Rattle.refusals.specs.Answers.{Gives, of_input, Tells}
 use Rattle.refusals.proofs.Passed.{passed_both}
 use Rattle.refusals.proofs.Accepted.{accepted_input}
@@ -26,7 +25,7 @@ supports_give p t entries = also_gives 7 refl (eqb entries (rows t)) (wider_give
 -- ---- the count
 
 -- of an accepted table it is at most 1,024
-accepted_count : (p t : Bytes) (entries : ℕ) → check_supports p t entries ≡ Accepted → length (support_issues p t) ≤ 1024
+accepted_count : (p t : Bytes) (entries : ℕ) → check_supports p t entries ≡ accepted → length (support_issues p t) ≤ 1024
 unfolding check_supports support_issues
 accepted_count p t entries h =
     le_trans (length_indices (lacks_support p t) (rows t) 0) (accepted_input p t (passed_both (check_input p t) _ h).0).1.few

@@ -7,8 +7,7 @@ use Rattle.blocks.specs.Kind.{RedstoneWire, RedstoneTorch, Repeater, Comparator,
 use Rattle.world.specs.Rows.{rows, kind_of, support_of}
 use Rattle.world.specs.Find.{find_at}
 use Rattle.traits.specs.Traits.{traits}
-use Rattle.refusals.specs.declared.Checked.{Checked}
-use Rattle.refusals.specs.Check.{also, check_input, answer_of, written}
+use Rattle.refusals.specs.Check.{Checked, also, check_input, answer_of, written}
 
 -- "dust, torches, repeaters, comparators and levers"
 abbrev pub needs_support : ℕ → Bool

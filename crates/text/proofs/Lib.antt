@@ -2,5 +2,4 @@
 pub mod Decimal
 pub mod Lengths
 pub mod Putting
-pub mod Signs
 mod Examples

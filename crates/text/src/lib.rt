@@ -2,7 +2,7 @@
 // text takes, and says that its text is no longer.
 #![tactic(auto)]
 
-ghost use Rattle.std.specs.Prelude.{◌≡◌, [], ◌∷◌, ◌++◌, ◌+◌, ◌<◌, ◌≤◌, length, ℤ, nat_abs};
+ghost use Rattle.std.specs.Prelude.{◌≡◌, [], ◌∷◌, ◌++◌, ◌+◌, ◌<◌, ◌≤◌, length, ℤ};
 ghost use Rattle.text.specs.Text.{decimal_of, sign_text, signed_text, line_of};
 ghost use Rattle.text.specs.Put.{Puts};
 
@@ -10,12 +10,9 @@ pub fn bytes(out: &mut [u8], at: usize, text: &[u8]) -> usize
     requires { at + length text.now ≤ length out.old }
     ensures { Puts text.now at out.old out.new result }
 {
-    let mut i = 0;
-    while i < text.len() {
-        out[at + i] = text[i];
-        i += 1;
-    }
-    at + i
+    let end = at + text.len();
+    out[at..end].copy_from_slice(text);
+    end
 }
 
 // A number in decimal and the byte that ends it, in just the room that they take.
@@ -45,17 +42,7 @@ pub fn small_number(out: &mut [u8], at: usize, n: u8, end: u8) -> usize
     ensures puts { Puts (decimal_of n ++ (end ∷ [])) at out.old out.new result }
     ensures few { result ≤ at + 3 }
 {
-    digits_then(out, at, n as u64, end)
-}
-
-fn magnitude(x: i32) -> u64
-    ensures value { result ≡ nat_abs x }
-    ensures few { result ≤ 2147483648 }
-{
-    if x < 0 {
-        return (0 - (x as i64)) as u64;
-    }
-    x as u64
+    digits_then(out, at, u64::from(n), end)
 }
 
 // The sign of a number.
@@ -77,7 +64,7 @@ pub fn signed(out: &mut [u8], at: usize, x: i32, end: u8) -> usize
     ensures few { result ≤ at + 12 }
 {
     let start = sign(out, at, x);
-    digits_then(out, start, magnitude(x), end)
+    digits_then(out, start, u64::from(x.unsigned_abs()), end)
 }
 
 // A name and a number, as a line.

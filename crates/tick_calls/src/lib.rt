@@ -4,7 +4,7 @@
 ghost use Rattle.std.specs.Prelude.{◌≡◌, ℤ};
 ghost use Rattle.calls.specs.Calls.{well_formed_ticks, ticks_in, ticks_right, switch_in, switch_right};
 
-use calls::BLANK;
+use calls::blank_columns;
 use columns::same;
 use records::{MOST_BYTES, after, columns_agree, copied, number, pos_at, slice_of, well_formed};
 use world::row::rows;
@@ -52,9 +52,7 @@ pub fn ticks_right(r: &[u8]) -> bool
         let before = slice_of(r, 2);
         let bytes = before.len();
         let mut state = copied(before);
-        let mut signal = [BLANK; 64];
-        let mut weak = [BLANK; 64];
-        let mut strong = [BLANK; 64];
+        let (mut signal, mut weak, mut strong) = blank_columns();
         return ticks_in(
             r,
             &mut state[..bytes],
@@ -102,9 +100,7 @@ pub fn switch_right(r: &[u8]) -> bool
         let bytes = before.len();
         let n = rows(before);
         let mut table = copied(before);
-        let mut signal = [BLANK; 64];
-        let mut weak = [BLANK; 64];
-        let mut strong = [BLANK; 64];
+        let (mut signal, mut weak, mut strong) = blank_columns();
         return switch_in(
             r,
             &mut table[..bytes],

@@ -1,35 +1,29 @@
 // A torch's step.
 #![tactic(auto)]
 
-ghost use Rattle.std.specs.Prelude.{◌≡◌, length};
-ghost use Rattle.ports.specs.Ports.{Prepared};
+ghost use Rattle.std.specs.Prelude.{◌≡◌};
 ghost use Rattle.torch.specs.Step.{torch_support_is_powered, next_toggles, next_candidate, torch_row};
 
-use columns::{Found, larger};
-use levels::{has_power, number};
+use columns::Found;
+use levels::{Power, number};
+use ports::PreparedRow;
 use states::bits::is_candidate;
 use states::row::toggles_of;
 use words::write_word;
 
-fn torch_support_is_powered(
-    profile: &[u8],
-    table: &[u8],
-    near: &[u16],
-    weak: &[u8],
-    strong: &[u8],
-    row: usize,
-) -> bool
-    requires { Prepared table.now near.now row }
-    ensures { result ≡ torch_support_is_powered profile.now table.now weak.now strong.now row }
+#[tactic(auto, unfolding(crate::specs::Step::torch_support_is_powered))]
+fn torch_support_is_powered(profile: &[u8], at: PreparedRow, power: Power) -> bool
+    ensures { result ≡ torch_support_is_powered profile.now at.entry.table.now power.entry.weak.now power.entry.strong.now at.entry.row }
 {
-    let Found::At(j) = ports::support_row(table, near, row) else {
+    let Found::At(j) = at.support_row() else {
         return false;
     };
-    let conducts = traits::redstone_traits(profile, table, j).conducts();
-    conducts & has_power(weak, strong, j)
+    let conducts = traits::redstone_traits(profile, at.table, j).conducts();
+    conducts & power.any_at(j)
 }
 
 // A toggle more at bit 0; what is older than 30 ticks is dropped.
+#[tactic(auto, unfolding(crate::specs::Step::next_toggles))]
 fn next_toggles(old: u32, toggled: bool) -> u32
     ensures { result ≡ next_toggles old toggled }
 {
@@ -37,25 +31,18 @@ fn next_toggles(old: u32, toggled: bool) -> u32
     if toggled { kept + 1 } else { kept }
 }
 
+#[tactic(auto, unfolding(crate::specs::Step::next_candidate))]
 fn next_candidate(old: u8, toggles: u32) -> u8
     ensures { result ≡ next_candidate old toggles }
 {
-    larger(old, number(is_candidate(toggles)))
+    old.max(number(is_candidate(toggles)))
 }
 
-pub fn torch_step(
-    profile: &[u8],
-    table: &[u8],
-    near: &[u16],
-    weak: &[u8],
-    strong: &[u8],
-    row: usize,
-    sixteen: &mut [u8],
-)
-    requires { Prepared table.now near.now row × (length sixteen.old ≡ 16) }
-    ensures { sixteen.new ≡ torch_row profile.now table.now weak.now strong.now row sixteen.old }
+#[tactic(auto, unfolding(crate::specs::Step::torch_row))]
+pub fn torch_step(profile: &[u8], at: PreparedRow, power: Power, sixteen: &mut [u8; 16])
+    ensures { sixteen.new ≡ torch_row profile.now at.entry.table.now power.entry.weak.now power.entry.strong.now at.entry.row sixteen.old }
 {
-    let lit = number(!torch_support_is_powered(profile, table, near, weak, strong, row));
+    let lit = number(!torch_support_is_powered(profile, at, power));
     let toggles = next_toggles(toggles_of(sixteen), lit != sixteen[0]);
     let candidate = next_candidate(sixteen[8], toggles);
     sixteen[0] = lit;

@@ -9,8 +9,8 @@ ghost use Rattle.figures.specs.Room.{Room};
 ghost use Rattle.totals.specs.Month.{month_of, IsOpen, GoesOn};
 
 use figures::Figures;
-use streams::{COUNT_BYTES, Ending, Front, MOST_TABLES};
-use words::{from, front};
+use streams::{COUNT_BYTES, Ending, MOST_TABLES};
+use words::from;
 use world::row;
 
 #[derive(Drop)]
@@ -55,15 +55,16 @@ pub fn read(month: Month, profile: &[u8], bytes: &[u8]) -> Month
     ensures { GoesOn profile.now month bytes.now result }
 {
     let mut figures = month.figures;
-    let mut at = 0;
+    let mut rest = bytes;
+    // How long a table is, is read from the stream.
     loop {
-        let rest = from(bytes, at);
         let left = MOST_TABLES - (figures.tables + figures.refused);
-        if let Front::Ends(ending) = streams::front_of(left, rest) {
+        if let Some(ending) = streams::front_of(left, rest) {
             return Month { figures, ending };
         }
-        let n = streams::row_count(rest) * row::WIDTH;
-        figures = with_table(figures, profile, front(from(rest, COUNT_BYTES), n));
-        at += COUNT_BYTES + n;
+        let size = streams::row_count(rest) * row::WIDTH;
+        let (table, later) = from(rest, COUNT_BYTES).split_at(size);
+        figures = with_table(figures, profile, table);
+        rest = later;
     }
 }

@@ -28,7 +28,7 @@ pub struct BlockRedstoneTraits {
     pub drives: bool,
 }
 
-// The numbers of an arm, and of a rise: `WireConnection`.
+// The numbers of an arm, as a row stores it, and of a rise: `WireConnection`. In a table that is not accepted a stored arm may be any byte.
 pub const ARM_NONE: u8 = 1;
 
 pub const ARM_SIDE: u8 = 2;

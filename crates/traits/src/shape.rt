@@ -1,4 +1,4 @@
-// The numbers of the shapes, as byte 28 of a row has them.
+// The numbers of the shapes, as byte 28 of a row has them. In a table that is not accepted the byte may be any.
 pub const PLAIN: u8 = 0;
 
 pub const BOTTOM_SLAB: u8 = 1;

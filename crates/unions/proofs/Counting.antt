@@ -3,16 +3,16 @@
 use mathlib.Core.Path.{◌≡◌, refl, ap, ◌∙◌}
 use mathlib.Core.Bool.{true, false}
 use mathlib.Core.List.{[]}
+use Rattle.std.proofs.Common.{Some, None}
 use Prim.Native.Nat.{ℕ, ◌+◌, ◌≤◌}
 use native.Mathlib.Omega.{arith}
 use lib.ListN.{length}
 use Rattle.columns.specs.Column.{Bytes}
 use Rattle.world.specs.Rows.{rows}
 use Rattle.unions.specs.declared.Next.{Next}
-use Rattle.unions.specs.declared.Counted.TheVariants.{Clash, Rows}
 use Rattle.unions.specs.Union.{rows_of, union_rows, has_clash, counted}
-use Rattle.unions.specs.Walk.{past, clash_at}
-use Rattle.unions.proofs.Rows.{rows_left, all_left, none_left}
+use Rattle.unions.specs.Walk.{in_first, in_second, past, clash_at}
+use Rattle.unions.proofs.Rows.{rows_left, none_left}
 use Rattle.unions.proofs.Steps.{Step}
 
 -- i rows of the first and j of the second are passed, which are n rows of both and do not clash
@@ -23,19 +23,9 @@ pub record Counting (a b : Bytes) (i j n : ℕ) : Type 0 where
   pub count : length (union_rows (rows_of a) (rows_of b)) ≡ n + length (union_rows (rows_left a i) (rows_left b j))
   pub clash : has_clash (rows_of a) (rows_of b) ≡ has_clash (rows_left a i) (rows_left b j)
 
-pub counting_none : {a b : Bytes} → Counting a b 0 0 0
-counting_none {a} {b} =
-    record {
-      first_in = omega arith;
-      second_in = omega arith;
-      few = omega arith;
-      count = rw (all_left a, all_left b) (omega arith);
-      clash = rw (all_left a, all_left b) refl;
-    }
-
 module _ {a b : Bytes} {i j n : ℕ} (c : Counting a b i j n) where
   module _ {next : Next} (s : Step a i b j next) where
-    pub counting_more : clash_at a i b j next ≡ false → Counting a b (past next.first i) (past next.second j) (n + 1)
+    pub counting_more : clash_at a b next ≡ false → Counting a b (past (in_first next) i) (past (in_second next) j) (n + 1)
     counting_more none =
         record {
           first_in = s.first_in;
@@ -45,10 +35,10 @@ module _ {a b : Bytes} {i j n : ℕ} (c : Counting a b i j n) where
           clash = c.clash ∙ rw none at s.clash;
         }
 
-    pub counting_clash : clash_at a i b j next ≡ true → Clash ≡ counted (rows_of a) (rows_of b)
+    pub counting_clash : clash_at a b next ≡ true → None ≡ counted (rows_of a) (rows_of b)
     counting_clash some = rw (c.clash, s.clash, some) refl
 
-  pub counting_all : rows a + rows b ≤ i + j → Rows n ≡ counted (rows_of a) (rows_of b)
+  pub counting_all : rows a + rows b ≤ i + j → Some n ≡ counted (rows_of a) (rows_of b)
   unfolding union_rows has_clash
   counting_all over =
       let first : rows_left a i ≡ [] = none_left a i (omega (arith, c.first_in, c.second_in)) in

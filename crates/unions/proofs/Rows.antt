@@ -17,9 +17,6 @@ use Rattle.unions.proofs.Rising.{Past, Rising}
 abbrev pub rows_left : Bytes → ℕ → List Bytes
 rows_left t i = rows_from t (rows t - i) i
 
-pub all_left : (t : Bytes) → rows_left t 0 ≡ rows_of t
-all_left t = let e : rows t - 0 ≡ rows t = omega arith in rw e refl
-
 pub rows-left : (t : Bytes) (i : ℕ) → i < rows t → rows_left t i ≡ part 32 t i ∷ rows_left t (i + 1)
 unfolding rows_from
 rows-left t i l = let e : rows t - i ≡ suc (rows t - (i + 1)) = omega arith in rw e refl

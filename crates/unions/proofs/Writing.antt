@@ -1,21 +1,21 @@
 -- The walk that writes: what holds of the output after some steps.
 -- Assumes nothing.
 use mathlib.Core.Path.{◌≡◌, refl, ap, sym, ◌∙◌}
-use mathlib.Core.Bool.{Bool, true, false, cond}
 use mathlib.Core.List.{[], ◌++◌, append_assoc}
 use Prim.Native.Nat.{ℕ, ◌+◌, ◌*◌, ◌≤◌}
-use native.Mathlib.Nat.{zero-add, add-zero}
+use native.Mathlib.Nat.{add-zero}
 use native.Mathlib.Omega.{arith}
 use lib.ListN.{length, take, drop, length-append, take-append-drop}
 use lib.Seq.{length-take-le, take_at, drop_at, drop-drop}
 use borrow.Rule.Slice.PartMut.{put_mid, same_len_mid}
-use Rattle.columns.specs.Column.{Bytes, part, at_front}
+use Rattle.columns.specs.Column.{Bytes, at_front}
 use Rattle.columns.proofs.Parts.{length_part}
 use Rattle.world.specs.Rows.{rows}
 use Rattle.unions.specs.declared.Next.{Next}
+use Rattle.unions.specs.declared.Next.TheVariants.{First, Second, Both}
 use Rattle.unions.specs.Union.{rows_of, joined, union_rows}
-use Rattle.unions.specs.Walk.{past, next_row, Within}
-use Rattle.unions.proofs.Rows.{rows_left, all_left, none_left}
+use Rattle.unions.specs.Walk.{in_first, in_second, past, next_row, Within}
+use Rattle.unions.proofs.Rows.{rows_left, none_left}
 use Rattle.unions.proofs.Steps.{Step}
 
 -- ---- bytes in the place of others
@@ -47,23 +47,11 @@ pub record Writing (a b out₀ : Bytes) (i j n : ℕ) (out : Bytes) : Type 0 whe
   pub count : length (union_rows (rows_of a) (rows_of b)) ≡ n + length (union_rows (rows_left a i) (rows_left b j))
   pub is : at_front (joined (union_rows (rows_of a) (rows_of b))) out₀ ≡ put_from (n * 32) (joined (union_rows (rows_left a i) (rows_left b j))) out
 
-pub writing_none : {a b out : Bytes} → Writing a b out 0 0 0 out
-writing_none {a} {b} {out} =
-    record {
-      first_in = omega arith;
-      second_in = omega arith;
-      long = refl;
-      count = rw (all_left a, all_left b) (omega arith);
-      is = rw (all_left a, all_left b, zero-add (length (joined (union_rows (rows_of a) (rows_of b))))) refl;
-    }
-
 -- a row that is taken has 32 bytes
-length_next : {a b : Bytes} {i j : ℕ} {next : Next} → Within a i b j next → length (next_row a i b j next) ≡ 32
-length_next {a} {b} {i} {j} {next} w = go next.first refl
-  where
-    go : (x : Bool) → next.first ≡ x → length (cond x (part 32 a i) (part 32 b j)) ≡ 32
-    go true e = length_part 32 a i (w.first e)
-    go false e = length_part 32 b j (w.second (w.some e))
+length_next : (a b : Bytes) (next : Next) → Within a b next → length (next_row a b next) ≡ 32
+length_next a b (First i) w = length_part 32 a i w
+length_next a b (Second j) w = length_part 32 b j w
+length_next a b (Both i j) w = length_part 32 a i w.0
 
 module _ {a b out₀ : Bytes} {i j n : ℕ} {out : Bytes} (w : Writing a b out₀ i j n out) where
   module _ {next : Next} (s : Step a i b j next) (room : length (union_rows (rows_of a) (rows_of b)) * 32 ≤ length out₀) where
@@ -73,18 +61,18 @@ module _ {a b out₀ : Bytes} {i j n : ℕ} {out : Bytes} (w : Writing a b out�
         let one = ap length s.row in
         omega (arith, w.count, w.long, one, room)
 
-    pub writing_more : {r : Bytes} → r ≡ next_row a i b j next → Writing a b out₀ (past next.first i) (past next.second j) (n + 1) (put_mid (n * 32) 32 out r)
+    pub writing_more : {r : Bytes} → r ≡ next_row a b next → Writing a b out₀ (past (in_first next) i) (past (in_second next) j) (n + 1) (put_mid (n * 32) 32 out r)
     unfolding joined
     writing_more {r} e =
         let one = ap length s.row in
-        let row = length_next s.within in
+        let row = length_next a b next s.within in
         let next_place : (n + 1) * 32 ≡ n * 32 + 32 = omega arith in
         record {
           first_in = s.first_in;
           second_in = s.second_in;
           long = same_len_mid (n * 32) 32 out r (ap length e ∙ row ∙ sym (length_part 32 out n writing_room)) ∙ w.long;
           count = omega (arith, w.count, one);
-          is = w.is ∙ rw (s.row, next_place, e) (put_first (n * 32) (next_row a i b j next) _ out row writing_room);
+          is = w.is ∙ rw (s.row, next_place, e) (put_first (n * 32) (next_row a b next) _ out row writing_room);
         }
 
   pub writing_all : rows a + rows b ≤ i + j → out ≡ at_front (joined (union_rows (rows_of a) (rows_of b))) out₀

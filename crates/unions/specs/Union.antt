@@ -1,12 +1,10 @@
 -- The rows of two tables in one list. What stands in quotation marks is document 02's, Change 6.
 -- Assumes nothing.
-use Rattle.std.specs.Prelude.{◌≡◌, Bool, false, cond, not, ◌&&◌, ◌||◌, List, [], ◌∷◌, ◌++◌, ℕ, zero, suc, ◌+◌, ◌<◌, length}
+use Rattle.std.specs.Prelude.{◌≡◌, Bool, false, cond, not, ◌&&◌, ◌||◌, List, [], ◌∷◌, ◌++◌, ℕ, zero, suc, ◌+◌, ◌<◌, length, Option, Some, None}
 use Rattle.columns.specs.Column.{Bytes, part, same}
 use Rattle.places.specs.declared.Pos.{Pos}
 use Rattle.places.specs.Places.{same_pos, before}
 use Rattle.world.specs.Rows.{rows, pos_of}
-use Rattle.unions.specs.declared.Counted.{Counted}
-use Rattle.unions.specs.declared.Counted.TheVariants.{Clash, Rows}
 
 -- ---- the rows of a table
 
@@ -62,6 +60,6 @@ any_of f (r ∷ rest) = f r || any_of f rest
 unfoldable pub has_clash : List Bytes → List Bytes → Bool
 has_clash first second = any_of (λ r. any_of (clashes r) second) first
 
--- how many rows both have together, or that they clash
-abbrev pub counted : List Bytes → List Bytes → Counted
-counted first second = cond (has_clash first second) Clash (Rows (length (union_rows first second)))
+-- how many rows both have together, or None where they clash
+abbrev pub counted : List Bytes → List Bytes → Option ℕ
+counted first second = cond (has_clash first second) None (Some (length (union_rows first second)))

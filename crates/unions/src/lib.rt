@@ -1,60 +1,102 @@
 // The walk along the rows of two tables, in order: each step takes a row of one of them, or of both where they stand at one position.
 #![tactic(auto)]
 
-ghost use Rattle.std.specs.Prelude.{◌≡◌, ◌+◌, ◌*◌, ◌≤◌, length};
+ghost use Rattle.std.specs.Prelude.{◌≡◌, ◌+◌, ◌-◌, ◌*◌, ◌≤◌, length};
+ghost use Rattle.std.specs.Iterator.{at_most};
 ghost use Rattle.columns.specs.Column.{part, same as sameBytes, at_front};
+ghost use Rattle.world.specs.Rows.{rows};
 ghost use Rattle.refusals.specs.Accepted.{Table};
 ghost use Rattle.unions.specs.Union.{rows_of, joined, union_rows, counted};
-ghost use Rattle.unions.specs.Walk.{next_of, past, clash_at, next_row, Within};
+ghost use Rattle.unions.specs.Walk.{in_first, in_second, next_of, clash_at, next_row, Within, OnWay, Steps};
 
 use columns::same;
 use subtables::copy_row;
 use world::row;
 
-// Which of the tables have the next row.
+// The next row, by its number in the tables that have it.
 #[derive(Clone, Copy)]
-struct Next {
-    first: bool,
-    second: bool,
+enum Next {
+    First(usize),
+    Second(usize),
+    Both(usize, usize),
 }
 
-// How many rows the tables have together, or that they clash.
+impl Next {
+    fn in_first(self) -> bool
+        ensures { result ≡ in_first self }
+    {
+        !matches!(self, Next::Second(_))
+    }
+
+    fn in_second(self) -> bool
+        ensures { result ≡ in_second self }
+    {
+        !matches!(self, Next::First(_))
+    }
+}
+
+// The walk past i rows of the first and j of the second.
 #[derive(Drop)]
-pub enum Counted {
-    Clash,
-    Rows(usize),
+struct Walk<'a> {
+    first: &'a [u8],
+    i: usize,
+    second: &'a [u8],
+    j: usize,
 }
 
-// Which has the next row, where rows are left from these on.
+impl<'a> Walk<'a> {
+    fn new(first: &'a [u8], second: &'a [u8]) -> Self
+        ensures { (result.first.now ≡ first.now) × (result.i ≡ 0) × (result.second.now ≡ second.now) × (result.j ≡ 0) }
+    {
+        Self {
+            first,
+            i: 0,
+            second,
+            j: 0,
+        }
+    }
+}
+
+impl<'a> Iterator for Walk<'a> {
+    type Item = Next;
+
+    ghost can_next = { OnWay };
+
+    ghost next_gives = { Steps };
+
+    ghost remaining = { λ s. at_most (rows s.first.now + rows s.second.now - (s.i + s.j)) };
+
+    fn next(&mut self) -> Option<Next> {
+        if self.i == row::rows(self.first) && self.j == row::rows(self.second) {
+            return None;
+        }
+        let next = next_row(self.first, self.i, self.second, self.j);
+        self.i += usize::from(next.in_first());
+        self.j += usize::from(next.in_second());
+        Some(next)
+    }
+}
+
+// The next row, where rows are left from these on.
+#[tactic(auto, unfolding(crate::specs::Walk::next_of))]
 fn next_row(first: &[u8], i: usize, second: &[u8], j: usize) -> Next
     ensures { result ≡ next_of first.now i second.now j }
 {
     if i == row::rows(first) {
-        return Next {
-            first: false,
-            second: true,
-        };
+        return Next::Second(j);
     }
     if j == row::rows(second) {
-        return Next {
-            first: true,
-            second: false,
-        };
+        return Next::First(i);
     }
     let p = row::pos_of(first, i);
     let q = row::pos_of(second, j);
-    Next {
-        first: !q.before(p),
-        second: !p.before(q),
+    if p.before(q) {
+        Next::First(i)
+    } else if q.before(p) {
+        Next::Second(j)
+    } else {
+        Next::Both(i, j)
     }
-}
-
-// The index past a row, if it is taken.
-fn past(taken: bool, i: usize) -> usize
-    requires { i ≤ 1024 }
-    ensures { result ≡ past taken i }
-{
-    if taken { i + 1 } else { i }
 }
 
 // Whether two rows are the same, byte for byte.
@@ -62,53 +104,44 @@ fn same_rows(first: &[u8], i: usize, second: &[u8], j: usize) -> bool
     requires { (i * 32 + 32 ≤ length first.now) × (j * 32 + 32 ≤ length second.now) }
     ensures { result ≡ sameBytes (part 32 first.now i) (part 32 second.now j) }
 {
-    let a = i * row::WIDTH;
-    let b = j * row::WIDTH;
-    same(&first[a..a + row::WIDTH], &second[b..b + row::WIDTH])
+    same(row::row_in(first, i), row::row_in(second, j))
 }
 
-// Whether both tables have the next row and it differs.
-fn clash_at(first: &[u8], i: usize, second: &[u8], j: usize, next: Next) -> bool
-    requires { Within first.now i second.now j next }
-    ensures { result ≡ clash_at first.now i second.now j next }
+// Whether both tables have the row and it differs.
+fn clash_at(first: &[u8], second: &[u8], next: Next) -> bool
+    requires { Within first.now second.now next }
+    ensures { result ≡ clash_at first.now second.now next }
 {
-    if next.first & next.second {
-        return !same_rows(first, i, second, j);
+    match next {
+        Next::Both(i, j) => !same_rows(first, i, second, j),
+        _ => false,
     }
-    false
 }
 
-// Counts the rows of both, each shared one once, up to the first clash.
-pub fn count_rows(first: &[u8], second: &[u8]) -> Counted
+// Counts the rows of both, each shared one once; None where they clash.
+pub fn count_rows(first: &[u8], second: &[u8]) -> Option<usize>
     requires { Table first.now × Table second.now }
     ensures { result ≡ counted (rows_of first.now) (rows_of second.now) }
 {
-    let rows = row::rows(first) + row::rows(second);
-    let mut i = 0;
-    let mut j = 0;
     let mut count = 0;
-    while i + j < rows {
-        let next = next_row(first, i, second, j);
-        if clash_at(first, i, second, j, next) {
-            return Counted::Clash;
+    for next in Walk::new(first, second) {
+        if clash_at(first, second, next) {
+            return None;
         }
-        i = past(next.first, i);
-        j = past(next.second, j);
         count += 1;
     }
-    Counted::Rows(count)
+    Some(count)
 }
 
 // Copies the next row to 32 bytes.
-fn copy_next(first: &[u8], i: usize, second: &[u8], j: usize, next: Next, out: &mut [u8])
-    requires within { Within first.now i second.now j next }
+fn copy_next(first: &[u8], second: &[u8], next: Next, out: &mut [u8])
+    requires within { Within first.now second.now next }
     requires out_len { length out.old ≡ 32 }
-    ensures { out.new ≡ next_row first.now i second.now j next }
+    ensures { out.new ≡ next_row first.now second.now next }
 {
-    if next.first {
-        copy_row(first, i, out);
-    } else {
-        copy_row(second, j, out);
+    match next {
+        Next::First(i) | Next::Both(i, _) => copy_row(first, i, out),
+        Next::Second(j) => copy_row(second, j, out),
     }
 }
 
@@ -118,17 +151,10 @@ pub fn write_rows(first: &[u8], second: &[u8], out: &mut [u8])
     requires second_in_bounds { length (union_rows (rows_of first.now) (rows_of second.now)) * 32 ≤ length out.old }
     ensures { out.new ≡ at_front (joined (union_rows (rows_of first.now) (rows_of second.now))) out.old }
 {
-    let rows = row::rows(first) + row::rows(second);
-    let mut i = 0;
-    let mut j = 0;
     let mut count = 0;
-    while i + j < rows {
-        let next = next_row(first, i, second, j);
+    for next in Walk::new(first, second) {
         let start = count * row::WIDTH;
-        let end = start + row::WIDTH;
-        copy_next(first, i, second, j, next, &mut out[start..end]);
-        i = past(next.first, i);
-        j = past(next.second, j);
+        copy_next(first, second, next, &mut out[start..start + row::WIDTH]);
         count += 1;
     }
 }

@@ -1,5 +1,6 @@
 -- Which refusals fresh, tick and switch give, and what their answers tell.
 -- Assumes nothing.
+use Rattle.std.proofs.Common.{Ok, Err}
 use mathlib.Core.Path.{◌≡◌, refl, sym, ◌∙◌}
 use mathlib.Core.Bool.{◌&&◌}
 use mathlib.Core.List.{[], ◌∷◌, ◌++◌}
@@ -9,9 +10,7 @@ use lib.Dec.{eqb, leb}
 use Rattle.columns.specs.Column.{Bytes, Column}
 use Rattle.places.specs.declared.Pos.{Pos}
 use Rattle.world.specs.Rows.{rows}
-use Rattle.refusals.specs.declared.Checked.{Checked}
-use Rattle.refusals.specs.declared.Checked.TheVariants.{Accepted, Refused}
-use Rattle.refusals.specs.Check.{written}
+use Rattle.refusals.specs.Check.{Checked, refused, written}
 use Rattle.refusals.specs.Answers.{Gives, of_input, Tells}
 use Rattle.refusals.proofs.Accepted.{accepted_input}
 use Rattle.refusals.proofs.Gives.{or_gives, also_gives, wider_gives, not_given, input_gives, values_give}
@@ -47,19 +46,19 @@ module _ (p t st : Bytes) where
 
     -- ---- "Only settle gives 8"
 
-    pub fresh_never_8 : (state i : ℕ) → ¬ (check_fresh p t state signal weak strong ≡ Refused 8 i)
+    pub fresh_never_8 : (state i : ℕ) → ¬ (check_fresh p t state signal weak strong ≡ refused 8 i)
     fresh_never_8 state i = not_given (fresh_gives state) 8 i refl
 
-    pub step_never_8 : (i : ℕ) → ¬ (check_step p t st signal weak strong ≡ Refused 8 i)
+    pub step_never_8 : (i : ℕ) → ¬ (check_step p t st signal weak strong ≡ refused 8 i)
     step_never_8 i = not_given step_gives 8 i refl
 
-    pub tick_never_8 : (now asked i : ℕ) → ¬ (check_tick p t st now asked signal weak strong ≡ Refused 8 i)
+    pub tick_never_8 : (now asked i : ℕ) → ¬ (check_tick p t st now asked signal weak strong ≡ refused 8 i)
     tick_never_8 now asked i = not_given (tick_gives now asked) 8 i refl
 
 -- what is written where it makes no difference
 pub either_way : (c : Checked) (st : Bytes) → written c st st ≡ st
-either_way Accepted st = refl
-either_way (Refused n i) st = refl
+either_way (Ok _) st = refl
+either_way (Err fault) st = refl
 
 -- ---- the answers: "1 to 17, the rounds, or 65,536 times the number plus the row"
 

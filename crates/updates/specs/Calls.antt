@@ -4,8 +4,7 @@ use Rattle.std.specs.Prelude.{◌≡◌, ◌&&◌, ℕ, ◌+◌, ◌*◌, length
 use Rattle.columns.specs.Column.{Bytes, Column}
 use Rattle.places.specs.declared.Pos.{Pos}
 use Rattle.world.specs.Rows.{rows}
-use Rattle.refusals.specs.declared.Checked.{Checked}
-use Rattle.refusals.specs.Check.{or_else, also, check_input, answer_of, written}
+use Rattle.refusals.specs.Check.{Checked, or_else, also, check_input, answer_of, written}
 use Rattle.electrical.specs.Answer.{rounds_of, settled, good_columns, Columns}
 use Rattle.switching.specs.Switch.{switched}
 use Rattle.updates.specs.State.{devices_of, check_state, fresh_devices, fresh_state}

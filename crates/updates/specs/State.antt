@@ -4,9 +4,7 @@
 use Rattle.std.specs.Prelude.{◌≡◌, Bool, not, ℕ, ◌*◌, length, eqb}
 use Rattle.columns.specs.Column.{Bytes, Column, tabulate, part, concat_rows}
 use Rattle.world.specs.Rows.{rows}
-use Rattle.refusals.specs.declared.Checked.{Checked}
-use Rattle.refusals.specs.declared.Checked.TheVariants.{Accepted}
-use Rattle.refusals.specs.Check.{check_values}
+use Rattle.refusals.specs.Check.{Checked, accepted, check_values}
 use Rattle.electrical.specs.Answer.{settled}
 use Rattle.states.specs.Row.{device_of, good_state}
 use Rattle.fresh.specs.Fresh.{fresh_device, fresh_row}
@@ -34,7 +32,7 @@ check_state t st = check_values (eqb (length st) (rows t * 16)) (is_bad_state t 
 
 -- no refusal falls on the state
 abbrev pub IsValidState : Bytes → Bytes → Type 0
-IsValidState t st = check_state t st ≡ Accepted
+IsValidState t st = check_state t st ≡ accepted
 
 -- ---- the fresh state: `RedstoneTickSimulator::new`
 

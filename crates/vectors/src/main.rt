@@ -3,7 +3,7 @@
 
 ghost use Rattle.std.specs.Prelude.{◌≡◌, length};
 
-use reading::{Input, read_all};
+use reading::read_all;
 use replay::Tally;
 use std::io;
 use std::io::Read;
@@ -23,21 +23,20 @@ fn room() -> [u8; 262144]
     [0; 262144]
 }
 
-// What one read more answers after the last byte that was read: no byte at the end of the file.
-fn read_more(file: &mut impl Read) -> Input {
-    let mut one = [0u8; 1];
-    read_all(file, &mut one)
+// How many bytes one read more answers after the last byte that was read: none at the end of the file.
+fn read_more(file: &mut impl Read) -> io::Result<usize> {
+    read_all(file, &mut [0u8; 1])
 }
 
 fn replay_file(rt: &impl Print, file: &mut impl Read) -> io::Result<()> {
     let mut bytes = room();
-    let Input::Bytes(n) = read_all(file, &mut bytes) else {
+    let Ok(n) = read_all(file, &mut bytes) else {
         return println!(rt; "The file vectors cannot be read.");
     };
     match read_more(file) {
-        Input::Unreadable => println!(rt; "The file vectors cannot be read."),
-        Input::Bytes(0) => report(rt, replay::replay(&bytes[..n])),
-        Input::Bytes(_) => println!(rt; "The file vectors is longer than 262,144 bytes."),
+        Ok(0) => report(rt, replay::replay(&bytes[..n])),
+        Ok(_) => println!(rt; "The file vectors is longer than 262,144 bytes."),
+        Err(_) => println!(rt; "The file vectors cannot be read."),
     }
 }
 

@@ -1,5 +1,6 @@
 -- Laws: dust transmits only between dusts, and only from one of the twelve positions around the sink, whatever its arms; and the heights tell the rule.
 -- Assumes nothing.
+use Rattle.std.proofs.Common.{Option, Some, None}
 use mathlib.Core.Path.{◌≡◌, refl, ap, sym, ◌∙◌}
 use mathlib.Core.Bool.{Bool, true, false, cond, ◌&&◌, false≢true}
 use mathlib.Core.List.Memᴰ
@@ -16,29 +17,27 @@ use Rattle.places.proofs.Order.{same_pos_true}
 use Rattle.places.proofs.Steps.{InRange, sat_add_exact, step_small, step_back, sideways, opposite_horizontal, sideways_back, over_beside, around, Step, down, level, up, is_around}
 use Rattle.world.specs.Rows.{pos_of, kind_of}
 use Rattle.wire.specs.declared.transfer.DustTransfer.{DustTransfer}
-use Rattle.wire.specs.declared.transfer.DustTransfer.TheVariants.{Horizontal, Rise, FallThroughConductor, NoTransfer}
+use Rattle.wire.specs.declared.transfer.DustTransfer.TheVariants.{Horizontal, Rise, FallThroughConductor}
 use Rattle.wire.specs.Transfer.{fits_horizontal, fits_rise, fits_fall, rule_along, or_rule, first_rule, transfer_by, is_transfer, transmits_by}
 
 -- some facing of the list has a rule that fits, and it is the first
-record Fits (rule : ℕ → DustTransfer) (fs : List ℕ) : Type 0 where
+record Fits (rule : ℕ → Option DustTransfer) (fs : List ℕ) : Type 0 where
   along : ℕ
   inside : Memᴰ along fs
   fits : is_transfer (rule along) ≡ true
   is : first_rule rule fs ≡ rule along
 
-first_fits : (rule : ℕ → DustTransfer) (fs : List ℕ) → is_transfer (first_rule rule fs) ≡ true → Fits rule fs
+first_fits : (rule : ℕ → Option DustTransfer) (fs : List ℕ) → is_transfer (first_rule rule fs) ≡ true → Fits rule fs
 unfolding first_rule
 first_fits rule [] h = absurd (false≢true h)
 first_fits rule (f ∷ fs) h = go (rule f) refl h (first_fits rule fs)
   where
-    here : {x : DustTransfer} → rule f ≡ x → is_transfer x ≡ true → first_rule rule (f ∷ fs) ≡ x → Fits rule (f ∷ fs)
+    here : {x : Option DustTransfer} → rule f ≡ x → is_transfer x ≡ true → first_rule rule (f ∷ fs) ≡ x → Fits rule (f ∷ fs)
     here q e first = record { along = f; inside = Memᴰ.head refl; fits = rw q e; is = first ∙ sym q }
 
-    go : (x : DustTransfer) → rule f ≡ x → is_transfer (or_rule x (first_rule rule fs)) ≡ true → (is_transfer (first_rule rule fs) ≡ true → Fits rule fs) → Fits rule (f ∷ fs)
-    go Horizontal q e later = here q refl (rw q refl)
-    go Rise q e later = here q refl (rw q refl)
-    go FallThroughConductor q e later = here q refl (rw q refl)
-    go NoTransfer q e later =
+    go : (x : Option DustTransfer) → rule f ≡ x → is_transfer (or_rule x (first_rule rule fs)) ≡ true → (is_transfer (first_rule rule fs) ≡ true → Fits rule fs) → Fits rule (f ∷ fs)
+    go (Some r) q e later = here q refl (rw q refl)
+    go None q e later =
         let s : Fits rule fs = later e in
         record { along = s.along; inside = Memᴰ.tail s.inside; fits = s.fits; is = rw q s.is }
 
@@ -47,7 +46,7 @@ module _ (arm : ℕ → ℕ → ℕ) (p t : Bytes) (j i : ℕ) (e : transmits_by
   unfolding transmits_by transfer_by
   along_some = go (is_dust (kind_of t j) && is_dust (kind_of t i)) refl e
     where
-      go : (b : Bool) → (is_dust (kind_of t j) && is_dust (kind_of t i)) ≡ b → is_transfer (cond b (first_rule (rule_along arm p t j i) horizontals) NoTransfer) ≡ true
+      go : (b : Bool) → (is_dust (kind_of t j) && is_dust (kind_of t i)) ≡ b → is_transfer (cond b (first_rule (rule_along arm p t j i) horizontals) None) ≡ true
           → ((is_dust (kind_of t j) && is_dust (kind_of t i)) ≡ true) × Fits (rule_along arm p t j i) horizontals
       go true d g = (d, first_fits (rule_along arm p t j i) horizontals g)
       go false d g = absurd (false≢true g)
@@ -57,17 +56,17 @@ module _ (arm : ℕ → ℕ → ℕ) (p t : Bytes) (j i : ℕ) (e : transmits_by
   transmits_dust = and_true (is_dust (kind_of t j)) (is_dust (kind_of t i)) along_some.0
 
 -- how much higher the sink is than the source
-abbrev pub height_of : DustTransfer → ℤ
-height_of Horizontal = zero_z
-height_of Rise = one
-height_of FallThroughConductor = minus_one
-height_of NoTransfer = zero_z
+abbrev pub height_of : Option DustTransfer → ℤ
+height_of (Some Horizontal) = zero_z
+height_of (Some Rise) = one
+height_of (Some FallThroughConductor) = minus_one
+height_of None = zero_z
 
-height_step : (x : DustTransfer) → Step (height_of x)
-height_step Horizontal = level
-height_step Rise = up
-height_step FallThroughConductor = down
-height_step NoTransfer = level
+height_step : (x : Option DustTransfer) → Step (height_of x)
+height_step (Some Horizontal) = level
+height_step (Some Rise) = up
+height_step (Some FallThroughConductor) = down
+height_step None = level
 
 -- the sink of a rule that fits along f is beside the source, and that much higher
 rule_sideways : (arm : ℕ → ℕ → ℕ) (p t : Bytes) (j i : ℕ) → InRange (pos_of t j) → (f : ℕ) → is_transfer (rule_along arm p t j i f) ≡ true
@@ -76,8 +75,8 @@ unfolding rule_along fits_horizontal fits_rise fits_fall beside
 rule_sideways arm p t j i r f = go (fits_horizontal arm t j i f) refl (fits_rise arm p t j i f) refl (fits_fall arm p t j i f) refl
   where
     go : (a : Bool) → fits_horizontal arm t j i f ≡ a → (b : Bool) → fits_rise arm p t j i f ≡ b → (c : Bool) → fits_fall arm p t j i f ≡ c
-        → is_transfer (cond a Horizontal (cond b Rise (cond c FallThroughConductor NoTransfer))) ≡ true
-        → sideways (pos_of t j) f (height_of (cond a Horizontal (cond b Rise (cond c FallThroughConductor NoTransfer)))) ≡ pos_of t i
+        → is_transfer (cond a (Some Horizontal) (cond b (Some Rise) (cond c (Some FallThroughConductor) None))) ≡ true
+        → sideways (pos_of t j) f (height_of (cond a (Some Horizontal) (cond b (Some Rise) (cond c (Some FallThroughConductor) None)))) ≡ pos_of t i
     go true x b y c z h = same_pos_true _ _ (and_true (same_pos (beside (pos_of t j) f) (pos_of t i)) _ x).0
     go false x true y c z h =
         sym (over_beside (pos_of t j) r f up) ∙ same_pos_true _ _ (and_true (same_pos (above (beside (pos_of t j) f)) (pos_of t i)) _ y).0

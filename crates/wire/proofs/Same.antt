@@ -1,6 +1,7 @@
 -- Laws: a transfer reads the kind, the position and, of dust, the arms of its two rows, the traits of what stands beside the source and
 -- below it, and nothing else.
 -- Assumes nothing.
+use Rattle.std.proofs.Common.{None}
 use mathlib.Core.Path.{◌≡◌, refl, ap}
 use mathlib.Core.Bool.{Bool, true, false, cond, ◌&&◌}
 use Prim.Native.Nat.{ℕ}
@@ -10,7 +11,6 @@ use Rattle.places.specs.declared.Pos.{Pos}
 use Rattle.places.specs.Places.{North, East, South, West, horizontals, is_horizontal, opposite, beside, below}
 use Rattle.world.specs.Rows.{pos_of, kind_of}
 use Rattle.traits.specs.Traits.{traits_at}
-use Rattle.wire.specs.declared.transfer.DustTransfer.TheVariants.{NoTransfer}
 use Rattle.wire.specs.Transfer.{fits_horizontal, fits_rise, fits_fall, rule_along, first_rule, transfer_by, is_transfer, transmits_by}
 
 -- row i of t with the arms a, and of u with the arms b
@@ -41,7 +41,7 @@ module _ {a b : ℕ → ℕ → ℕ} {t u : Bytes} {j i : ℕ} (source : SameRow
   same_transfer = rw (source.kind, sink.kind) (go (is_dust (kind_of u j)) refl (is_dust (kind_of u i)) refl)
     where
       go : (c : Bool) → is_dust (kind_of u j) ≡ c → (d : Bool) → is_dust (kind_of u i) ≡ d
-          → cond (c && d) (first_rule (rule_along a p t j i) horizontals) NoTransfer ≡ cond (c && d) (first_rule (rule_along b p u j i) horizontals) NoTransfer
+          → cond (c && d) (first_rule (rule_along a p t j i) horizontals) None ≡ cond (c && d) (first_rule (rule_along b p u j i) horizontals) None
       go true x true y = same_first x y
       go true x false y = refl
       go false x d y = refl

@@ -3,7 +3,7 @@ ghost use Rattle.std.specs.Prelude.{◌≡◌, ◌&&◌};
 ghost use Rattle.blocks.specs.Kind.{is_dust};
 ghost use Rattle.world.specs.Rows.{kind_of};
 ghost use Rattle.arms.specs.Arms.{arm_of};
-ghost use Rattle.wire.specs.Transfer.{fits_horizontal, fits_rise, fits_fall, fits, rule_of, dust_transfer, is_transfer, dust_transmits};
+ghost use Rattle.wire.specs.Transfer.{fits_horizontal, fits_rise, fits_fall, fits, rule_of, dust_transfer, dust_transmits};
 
 use arms::{arm_of, has_arm};
 use blocks::kind;
@@ -13,13 +13,12 @@ use traits::traits_at;
 use world::find::find;
 use world::row::{kind_of, pos_of};
 
-// The rule by which power goes from one dust to another, or none: `Option<DustTransfer>`.
+// The rule by which power goes from one dust to another.
 #[derive(Drop)]
 pub enum DustTransfer {
     Horizontal,
     Rise,
     FallThroughConductor,
-    NoTransfer,
 }
 
 // Whether the sink, row i, is beside the source, row j, and both have the arm.
@@ -62,7 +61,7 @@ fn fits_fall(profile: &[u8], table: &[u8], j: usize, i: usize, facing: u8) -> bo
     false
 }
 
-// The height steps from the cell beside the source to the sink: one rule for each.
+// The height steps from the cell beside the source to the sink: one rule for each. Numbers, over which the loop of `dust_transfer` goes.
 const LEVEL: u8 = 0;
 
 const UP: u8 = 1;
@@ -97,23 +96,23 @@ fn are_dust(table: &[u8], j: usize, i: usize) -> bool
 }
 
 // The rule between what stands at two positions: the first that fits, facing by facing and height by height.
-pub fn dust_transfer(profile: &[u8], table: &[u8], source: Pos, sink: Pos) -> DustTransfer
+pub fn dust_transfer(profile: &[u8], table: &[u8], source: Pos, sink: Pos) -> Option<DustTransfer>
     ensures { result ≡ dust_transfer profile.now table.now source sink }
 {
     let Found::At(j) = find(table, source) else {
-        return DustTransfer::NoTransfer;
+        return None;
     };
     let Found::At(i) = find(table, sink) else {
-        return DustTransfer::NoTransfer;
+        return None;
     };
     if !are_dust(table, j, i) {
-        return DustTransfer::NoTransfer;
+        return None;
     }
-    let mut found = DustTransfer::NoTransfer;
+    let mut found = None;
     'facings: for facing in Facing::NORTH..=Facing::WEST {
         'heights: for height in LEVEL..=DOWN {
             if fits(profile, table, j, i, facing, height) {
-                found = rule_of(height);
+                found = Some(rule_of(height));
                 break 'facings;
             }
         }
@@ -121,19 +120,8 @@ pub fn dust_transfer(profile: &[u8], table: &[u8], source: Pos, sink: Pos) -> Du
     found
 }
 
-fn is_transfer(transfer: DustTransfer) -> bool
-    ensures { result ≡ is_transfer transfer }
-{
-    match transfer {
-        DustTransfer::Horizontal => true,
-        DustTransfer::Rise => true,
-        DustTransfer::FallThroughConductor => true,
-        DustTransfer::NoTransfer => false,
-    }
-}
-
 pub fn dust_transmits(profile: &[u8], table: &[u8], source: Pos, sink: Pos) -> bool
     ensures { result ≡ dust_transmits profile.now table.now source sink }
 {
-    is_transfer(dust_transfer(profile, table, source, sink))
+    dust_transfer(profile, table, source, sink).is_some()
 }

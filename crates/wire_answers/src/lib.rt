@@ -21,16 +21,17 @@ pub fn arms_agree(
 ) -> bool
     ensures { result ≡ arms_agree profile.now table.now q facing inferred resolved }
 {
-    let f = facing as u32;
-    (probe::probe_infer(profile, table, q.x, q.y, q.z, f) == (inferred as u32))
-        & (probe::probe_resolved(profile, table, q.x, q.y, q.z, f) == (resolved as u32))
+    let f = u32::from(facing);
+    (probe::probe_infer(profile, table, q.x, q.y, q.z, f) == u32::from(inferred))
+        & (probe::probe_resolved(profile, table, q.x, q.y, q.z, f) == u32::from(resolved))
 }
 
 // The transfer from one position to another.
 pub fn transfer_agrees(profile: &[u8], table: &[u8], q: Pos, sink: Pos, number: u8) -> bool
     ensures { result ≡ transfer_agrees profile.now table.now q sink number }
 {
-    probe::probe_transfer(profile, table, q.x, q.y, q.z, sink.x, sink.y, sink.z) == (number as u32)
+    probe::probe_transfer(profile, table, q.x, q.y, q.z, sink.x, sink.y, sink.z)
+        == u32::from(number)
 }
 
 // Redraws this table, and compares the answer and the whole table.

@@ -28,40 +28,25 @@ pub fn front(s: &[u8], count: usize) -> &[u8]
     s
 }
 
-fn wide(b: u8) -> u32
-    ensures { (result ≡ b) × (result < 256) }
-{
-    b as u32
-}
-
 // The number of two bytes at the front.
 pub fn half(s: &[u8]) -> u32
     ensures { (result ≡ half s.now) × (result < 65536) }
 {
-    wide(byte_at(s, 0)) + wide(byte_at(s, 1)) * 256
+    u32::from(u16::from_le_bytes([byte_at(s, 0), byte_at(s, 1)]))
 }
 
 // The number of four bytes at the front.
 pub fn word(s: &[u8]) -> u32
     ensures { result ≡ word s.now }
 {
-    wide(byte_at(s, 0))
-        + wide(byte_at(s, 1)) * 256
-        + wide(byte_at(s, 2)) * 65536
-        + wide(byte_at(s, 3)) * 16777216
-}
-
-fn widest(n: u32) -> u64
-    ensures { (result ≡ n) × (result < 4294967296) }
-{
-    n as u64
+    u32::from_le_bytes([byte_at(s, 0), byte_at(s, 1), byte_at(s, 2), byte_at(s, 3)])
 }
 
 // The number of eight bytes at the front.
 pub fn long(s: &[u8]) -> u64
     ensures { result ≡ long s.now }
 {
-    widest(word(s)) + widest(word(from(s, 4))) * 4294967296
+    u64::from(word(s)) + u64::from(word(from(s, 4))) * 4294967296
 }
 
 // Writes a number to the four bytes from an index on.
@@ -69,8 +54,5 @@ pub fn write_word(bytes: &mut [u8], at: usize, n: u32)
     requires { at + 4 ≤ length bytes.old }
     ensures { bytes.new ≡ sets bytes.old at (four_bytes n) }
 {
-    bytes[at] = (n % 256) as u8;
-    bytes[at + 1] = (n / 256 % 256) as u8;
-    bytes[at + 2] = (n / 65536 % 256) as u8;
-    bytes[at + 3] = (n / 16777216 % 256) as u8;
+    bytes[at..at + 4].copy_from_slice(&n.to_le_bytes());
 }

@@ -1,10 +1,8 @@
 -- The look-up of a position: `World::get` and `World::kind_at`.
 -- Assumes nothing.
-use Rattle.std.specs.Prelude.{◌≡◌, Bool, false, not, ℕ, ◌+◌, ◌<◌}
+use Rattle.std.specs.Prelude.{◌≡◌, Bool, false, not, ℕ, ◌+◌, ◌<◌, Option, Some, None}
 use Rattle.blocks.specs.Kind.{Air}
 use Rattle.places.specs.declared.Pos.{Pos}
-use Rattle.places.specs.declared.Place.{Place}
-use Rattle.places.specs.declared.Place.TheVariants.{There, Nowhere}
 use Rattle.columns.specs.declared.Found.{Found}
 use Rattle.columns.specs.declared.Found.TheVariants.{Nothing}
 use Rattle.columns.specs.Column.{Bytes}
@@ -46,9 +44,9 @@ first_standing t q = first_from (stands_at t q) (rows t) 0
 -- ---- at a place, and the kind
 
 -- the look-up at a place
-abbrev pub find_at : Bytes → Place → Found
-find_at t (There q) = find t q
-find_at t Nowhere = Nothing
+abbrev pub find_at : Bytes → Option Pos → Found
+find_at t (Some q) = find t q
+find_at t None = Nothing
 
 unfoldable pub kind_at : Bytes → Pos → ℕ
 kind_at t q = on_found (kind_of t) Air (find t q)

@@ -1,10 +1,8 @@
 -- The block table: 32 bytes a row, each field by its name. A byte past the table's end is read as 0.
 -- Assumes nothing.
-use Rattle.std.specs.Prelude.{Bool, cond, ℕ, ◌+◌, ◌*◌, ◌/◌, length, get_or, eqb}
+use Rattle.std.specs.Prelude.{Bool, cond, ℕ, ◌+◌, ◌*◌, ◌/◌, length, get_or, eqb, Option, Some, None}
 use Rattle.columns.specs.Column.{Bytes}
 use Rattle.places.specs.declared.Pos.{Pos}
-use Rattle.places.specs.declared.Place.{Place}
-use Rattle.places.specs.declared.Place.TheVariants.{There, Nowhere}
 use Rattle.places.specs.Signed.{signed32, signed8}
 use Rattle.places.specs.Places.{is_horizontal, cell, offset}
 
@@ -52,11 +50,11 @@ abbrev pub delay_or : Bytes → ℕ → ℕ → ℕ
 delay_or t i other = given_or t i 17 other
 
 -- 19, 20-22: `support_pos`, the position of the support, where its offset is given
-unfoldable pub support_of : Bytes → ℕ → Place
+unfoldable pub support_of : Bytes → ℕ → Option Pos
 support_of t i =
     cond (eqb (byte_of t i 19) 1)
-    (There (offset (pos_of t i) (signed8 (byte_of t i 20)) (signed8 (byte_of t i 21)) (signed8 (byte_of t i 22))))
-    Nowhere
+    (Some (offset (pos_of t i) (signed8 (byte_of t i 20)) (signed8 (byte_of t i 21)) (signed8 (byte_of t i 22))))
+    None
 
 -- 23: the arms are stored
 abbrev pub has_stored_arms : Bytes → ℕ → Bool

@@ -3,8 +3,8 @@ ghost use Rattle.std.specs.Prelude.{◌≡◌};
 ghost use Rattle.world.specs.Find.{is_at_or_past, first_at_or_past, if_standing, find, find_at, kind_at};
 
 use crate::row;
-use columns::Found;
-use places::{Place, Pos};
+use columns::{Found, first_index};
+use places::Pos;
 
 // Whether a row stands at a position or past it. Of a row with a smaller x, x alone is read.
 fn is_at_or_past(table: &[u8], row: usize, q: Pos) -> bool
@@ -19,15 +19,7 @@ fn is_at_or_past(table: &[u8], row: usize, q: Pos) -> bool
 fn first_at_or_past(table: &[u8], q: Pos) -> Found
     ensures { result ≡ first_at_or_past table.now q }
 {
-    let n = row::rows(table);
-    let mut i = 0;
-    while i < n {
-        if is_at_or_past(table, i, q) {
-            return Found::At(i);
-        }
-        i += 1;
-    }
-    Found::Nothing
+    first_index(row::rows(table), |i| is_at_or_past(table, i, q))
 }
 
 // The row that a search ended at, if it stands at the position.
@@ -50,12 +42,12 @@ pub fn find(table: &[u8], q: Pos) -> Found
     if_standing(table, q, first_at_or_past(table, q))
 }
 
-pub fn find_at(table: &[u8], place: Place) -> Found
+pub fn find_at(table: &[u8], place: Option<Pos>) -> Found
     ensures { result ≡ find_at table.now place }
 {
     match place {
-        Place::There(q) => find(table, q),
-        Place::Nowhere => Found::Nothing,
+        Some(q) => find(table, q),
+        None => Found::Nothing,
     }
 }
 

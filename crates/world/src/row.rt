@@ -1,10 +1,11 @@
 // The fields of a row: 32 bytes a row, each field by its name. What lies past the table's end is 0.
 ghost use Rattle.std.specs.Prelude.{◌≡◌, ◌+◌, ◌*◌, ◌≤◌, ◌<◌, length, get_or, ℤ};
+ghost use Rattle.columns.specs.Column.{part};
 ghost use Rattle.places.specs.Places.{cell};
 ghost use Rattle.places.specs.Signed.{signed32, signed8};
 ghost use Rattle.world.specs.Rows.{rows, byte_of, given_or, word_of, pos_of, kind_of, facing_of, powered_of, is_powered, level_or, delay_or, support_of, has_stored_arms, arm_entry, stored_arm, shape_of, is_subtract};
 
-use places::{Facing, Place, Pos};
+use places::{Facing, Pos};
 
 pub const WIDTH: usize = 32;
 
@@ -13,6 +14,14 @@ pub fn rows(table: &[u8]) -> usize
     ensures { result ≡ rows table.now }
 {
     table.len() / WIDTH
+}
+
+// The bytes of a row, lent by themselves.
+pub fn row_in(table: &[u8], row: usize) -> &[u8; 32]
+    requires { row * 32 + 32 ≤ length table.now }
+    ensures { result.now ≡ part 32 table.now row }
+{
+    table[row * WIDTH..(row + 1) * WIDTH].as_array().unwrap()
 }
 
 // Byte b of a row.
@@ -29,83 +38,54 @@ pub fn byte_of(table: &[u8], row: usize, b: usize) -> u8
     table[start + b]
 }
 
-// A byte as a word.
-fn wide(b: u8) -> u32
-    ensures { (result ≡ b) × (result < 256) }
-{
-    b as u32
-}
-
-// The four bytes from byte b on, low byte first.
-fn word_of(table: &[u8], row: usize, b: usize) -> u32
+// The signed number in the four bytes from byte b on, low byte first.
+fn coordinate(table: &[u8], row: usize, b: usize) -> i32
     requires { b < 29 }
-    ensures { result ≡ word_of table.now row b }
+    ensures { result ≡ signed32 (word_of table.now row b) }
 {
-    wide(byte_of(table, row, b))
-        + wide(byte_of(table, row, b + 1)) * 256
-        + wide(byte_of(table, row, b + 2)) * 65536
-        + wide(byte_of(table, row, b + 3)) * 16777216
-}
-
-// The signed number with these 32 bits.
-fn signed(n: u32) -> i32
-    ensures { result ≡ signed32 n }
-{
-    if n < 2147483648 {
-        return n as i32;
-    }
-    ((n as i64) - 4294967296) as i32
-}
-
-// The signed number with these 8 bits.
-fn signed_byte(n: u8) -> i32
-    ensures { result ≡ signed8 n }
-{
-    if n < 128 {
-        return n as i32;
-    }
-    (n as i32) - 256
+    i32::from_le_bytes([
+        byte_of(table, row, b),
+        byte_of(table, row, b + 1),
+        byte_of(table, row, b + 2),
+        byte_of(table, row, b + 3),
+    ])
 }
 
 // The first coordinate of a row's position.
 pub fn x_of(table: &[u8], row: usize) -> i32
     ensures { result ≡ signed32 (word_of table.now row 0) }
 {
-    signed(word_of(table, row, 0))
-}
-
-// The position whose coordinates have these bits.
-fn pos_with(x: u32, y: u32, z: u32) -> Pos
-    ensures { result ≡ cell (signed32 x) (signed32 y) (signed32 z) }
-{
-    Pos::new(signed(x), signed(y), signed(z))
+    coordinate(table, row, 0)
 }
 
 // The position of a row.
 pub fn pos_of(table: &[u8], row: usize) -> Pos
     ensures { result ≡ pos_of table.now row }
 {
-    pos_with(
-        word_of(table, row, 0),
-        word_of(table, row, 4),
-        word_of(table, row, 8),
+    Pos::new(
+        coordinate(table, row, 0),
+        coordinate(table, row, 4),
+        coordinate(table, row, 8),
     )
 }
 
-// The four bytes from byte b on of a row that is lent by itself.
-fn word_in(row: &[u8], b: usize) -> u32
-    requires { b + 4 ≤ length row.now }
-    ensures { result ≡ get_or row.now b 0 + get_or row.now (b + 1) 0 * 256 + get_or row.now (b + 2) 0 * 65536 + get_or row.now (b + 3) 0 * 16777216 }
+// The same of a row that is lent by itself.
+fn coordinate_in(row: &[u8; 32], b: usize) -> i32
+    requires { b < 29 }
+    ensures { result ≡ signed32 (word_of row.now 0 b) }
 {
-    wide(row[b]) + wide(row[b + 1]) * 256 + wide(row[b + 2]) * 65536 + wide(row[b + 3]) * 16777216
+    i32::from_le_bytes([row[b], row[b + 1], row[b + 2], row[b + 3]])
 }
 
 // The position of a row that is lent by itself.
-pub fn pos_in(row: &[u8]) -> Pos
-    requires { length row.now ≡ 32 }
+pub fn pos_in(row: &[u8; 32]) -> Pos
     ensures { result ≡ pos_of row.now 0 }
 {
-    pos_with(word_in(row, 0), word_in(row, 4), word_in(row, 8))
+    Pos::new(
+        coordinate_in(row, 0),
+        coordinate_in(row, 4),
+        coordinate_in(row, 8),
+    )
 }
 
 pub fn kind_of(table: &[u8], row: usize) -> u8
@@ -159,17 +139,24 @@ pub fn delay_or(table: &[u8], row: usize, other: u8) -> u8
     given_or(table, row, 17, other)
 }
 
+// The signed number with these 8 bits.
+fn signed_byte(n: u8) -> i32
+    ensures { result ≡ signed8 n }
+{
+    i32::from(n.cast_signed())
+}
+
 // The position of the row's support, where its offset is given.
-pub fn support_pos(table: &[u8], row: usize) -> Place
+pub fn support_pos(table: &[u8], row: usize) -> Option<Pos>
     ensures { result ≡ support_of table.now row }
 {
     if byte_of(table, row, 19) != 1 {
-        return Place::Nowhere;
+        return None;
     }
     let dx = signed_byte(byte_of(table, row, 20));
     let dy = signed_byte(byte_of(table, row, 21));
     let dz = signed_byte(byte_of(table, row, 22));
-    Place::There(pos_of(table, row).offset(dx, dy, dz))
+    Some(pos_of(table, row).offset(dx, dy, dz))
 }
 
 pub fn has_stored_arms(table: &[u8], row: usize) -> bool
@@ -188,7 +175,7 @@ fn arm_entry(table: &[u8], row: usize, facing: u8) -> u8
     if Facing::WEST < facing {
         return 0;
     }
-    byte_of(table, row, 23 + (facing as usize))
+    byte_of(table, row, 23 + usize::from(facing))
 }
 
 // The stored entry of the arm along a facing, 0 where there is none.

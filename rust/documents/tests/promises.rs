@@ -1,7 +1,7 @@
 //! docs/PROMISES.md with the public functions and the must-fail edits, docs/DECISIONS.md with what functions require, and
 //! docs/ARCHITECTURE.md with the crates.
 
-use std::collections::BTreeSet;
+use std::collections::{BTreeMap, BTreeSet};
 
 use documents::{crates, marked, names_in, packages, path, table_rows, text};
 
@@ -19,17 +19,22 @@ fn edits() -> Vec<Edit> {
     crates().into_iter().flat_map(of).collect()
 }
 
-/// The names of a library's functions that other crates can call: those of lib.rt and of its public modules.
+/// The names of a library's functions that other crates can call: those of lib.rt and of its public modules, and the methods of all modules.
 fn public_functions(name: &str) -> Vec<String> {
     let library = format!("crates/{name}/src/lib.rt");
     if !path(&library).is_file() {
         return Vec::new();
     }
     let root = text(library);
-    let modules = root.lines().filter_map(|line| line.strip_prefix("pub mod ")?.strip_suffix(';'));
-    let sources = modules.map(|module| text(format!("crates/{name}/src/{module}.rt")));
-    let sources: Vec<_> = sources.chain([root.clone()]).collect();
-    sources.iter().flat_map(|source| source.lines()).filter_map(declared_function).collect()
+    let is_public =
+        |module: &str| module == "lib" || root.lines().any(|line| line == format!("pub mod {module};"));
+    let of = |file: String| {
+        let source = text(format!("crates/{name}/src/{file}"));
+        let called = is_public(file.strip_suffix(".rt").unwrap_or(&file));
+        let lines = source.lines().filter(|line| called || line.starts_with(' '));
+        lines.filter_map(declared_function).collect::<Vec<_>>()
+    };
+    names_in(format!("crates/{name}/src")).into_iter().flat_map(of).collect()
 }
 
 fn declared_function(line: &str) -> Option<String> {
@@ -122,21 +127,29 @@ fn every_edit_is_named_and_every_named_edit_is_there() {
     assert!(absent.is_empty(), "named in docs/PROMISES.md, but not there: {absent:?}");
 }
 
-/// An edit whose text is not there, or is there twice, is tried on nothing.
+/// An edit whose text is not there, or is there twice, is tried on nothing. A later change is of what the earlier ones made.
 #[test]
 fn every_edit_changes_one_place() {
     for (name, edit) in edits() {
-        let mut file = "";
         let lines = text(format!("crates/{name}/must-fail/{edit}.edit"));
+        let mut edited = BTreeMap::new();
+        let (mut file, mut old) = ("", "");
         let mut changes = 0;
         for line in lines.lines() {
             if let Some(named) = line.strip_prefix("file: ") {
                 file = named;
             }
-            if let Some(old) = line.strip_prefix("old: ") {
-                let places = text(format!("crates/{name}/{file}")).matches(old).count();
+            if let Some(told) = line.strip_prefix("old: ") {
+                old = told;
+                let source = edited.entry(file).or_insert_with(|| text(format!("crates/{name}/{file}")));
+                let places = source.matches(old).count();
                 assert_eq!(places, 1, "{name}/{edit}: '{old}' is in {file} so many times");
                 changes += 1;
+            }
+            if let Some(new) = line.strip_prefix("new: ") {
+                let source =
+                    edited.get_mut(file).unwrap_or_else(|| panic!("{name}/{edit}: a new text first"));
+                *source = source.replace(old, new);
             }
         }
         assert!(changes > 0, "{name}/{edit} changes nothing");

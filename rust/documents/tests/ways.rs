@@ -8,19 +8,16 @@ const CALLS: [(&str, &str, &str); 10] = [
     ("redstone/src/lib.rt", "redstone_settle", "solver::solve_instantaneous("),
     ("probe_c/src/lib.rt", "probe_settle_by_rounds", "probe::probe_settle_by_rounds("),
     ("probe/src/lib.rt", "probe_settle_by_rounds", "solver::solve_by_rounds("),
-    ("solver/src/lib.rt", "solve_instantaneous", "settle(Way::Keys,"),
-    ("solver/src/lib.rt", "solve_by_rounds", "settle(Way::Rounds,"),
-    ("solver/src/ways.rt", "settle_by", "Way::Keys=>settle_within("),
-    ("solver/src/ways.rt", "settle_by", "Way::Rounds=>rounds::settle::settle("),
-    ("solver/src/keyed.rt", "settle_within", "settle_in("),
-    ("solver/src/keyed.rt", "settle_in", "=settle("),
+    ("solver/src/lib.rt", "solve_instantaneous", "settle::<Keys>("),
+    ("solver/src/lib.rt", "solve_by_rounds", "settle::<ByRounds>("),
+    ("solver/src/lib.rt", "settle", "solve::<W>("),
+    ("solver/src/lib.rt", "solve", "W::settle("),
+    ("solver/src/ways.rt", "Way for Keys::settle", "keys::settle::settle("),
+    ("solver/src/ways.rt", "Way for ByRounds::settle", "rounds::settle::settle("),
 ];
 
 /// The names that these bodies have from elsewhere.
-const IMPORTS: [(&str, &str); 2] = [
-    ("solver/src/ways.rt", "use crate::keyed::settle_within;"),
-    ("solver/src/keyed.rt", "use keys::settle::settle;"),
-];
+const IMPORTS: [(&str, &str); 1] = [("solver/src/lib.rt", "use crate::ways::{ByRounds, Keys, Way};")];
 
 const WHAT_FOR: &str = "rust/differential compares settling by keys with settling round by round, and no contract tells \
                         which of them a function runs: were they one, code would be compared with itself";
@@ -29,13 +26,32 @@ fn source(file: &str) -> String {
     text(format!("crates/{file}"))
 }
 
-/// The body of a function, without spaces and braces.
+/// The lines of an `impl` by what it is of.
+fn methods<'a>(source: &'a str, of: &str) -> &'a str {
+    let from_head = source.split_once(&format!("\nimpl {of} {{\n")).map(|(_, rest)| rest);
+    let methods = from_head.and_then(|rest| rest.split_once("\n}")).map(|(methods, _)| methods);
+    methods.unwrap_or_else(|| panic!("there is no impl {of}"))
+}
+
+/// Whether a line begins a function of this name, with type parameters or without.
+fn begins(line: &str, function: &str) -> bool {
+    let named = line.split_once("fn ").and_then(|(_, rest)| rest.strip_prefix(function));
+    named.is_some_and(|rest| rest.starts_with(['(', '<']))
+}
+
+/// The body of a function, or of a method as IMPL::NAME, without spaces and braces.
 fn body(source: &str, function: &str) -> String {
-    let from_head = source.split_once(&format!("fn {function}(")).map(|(_, rest)| rest);
-    let from_body = from_head.and_then(|rest| rest.split_once("\n{\n")).map(|(_, rest)| rest);
-    let body = from_body.and_then(|rest| rest.split_once("\n}")).map(|(body, _)| body);
-    let body = body.unwrap_or_else(|| panic!("there is no function {function}"));
-    body.chars().filter(|letter| !letter.is_whitespace() && !"{}".contains(*letter)).collect()
+    let (source, name) = match function.rsplit_once("::") {
+        Some((of, method)) => (methods(source, of), method),
+        None => (source, function),
+    };
+    let mut lines = source.lines().skip_while(|line| !begins(line, name));
+    let head = lines.next().unwrap_or_else(|| panic!("there is no function {function}"));
+    let indent = &head[..head.len() - head.trim_start().len()];
+    let end = format!("{indent}}}");
+    let body = lines.skip_while(|line| !line.ends_with('{')).skip(1).take_while(|line| *line != end);
+    let letters = body.flat_map(str::chars);
+    letters.filter(|letter| !letter.is_whitespace() && !"{}".contains(*letter)).collect()
 }
 
 #[test]

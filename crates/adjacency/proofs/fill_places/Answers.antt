@@ -10,17 +10,8 @@ loop-place-init c = let s = c in placing_none (placed_long s.requires.0) s.requi
 pub overflow_mul-start : goal.overflow_mul-start
 overflow_mul-start c = omega (arith, placing_fits c.loop-place.invariant (omega arith))
 
-pub overflow_add-end : goal.overflow_add-end
-overflow_add-end c = omega (arith, placing_fits c.loop-place.invariant (omega arith))
-
-pub offset_bounds-near-start : goal.offset_bounds-near-start
-offset_bounds-near-start c = omega (arith, placing_fits c.loop-place.invariant (omega arith))
-
-pub slice_bounds-fill_place-count : goal.slice_bounds-fill_place-count
-slice_bounds-fill_place-count c = omega (arith, placing_fits c.loop-place.invariant (omega arith))
-
-pub slice_bounds-fill_place-start : goal.slice_bounds-fill_place-start
-slice_bounds-fill_place-start c = omega (arith, placing_fits c.loop-place.invariant (omega arith))
+pub overflow_add-start : goal.overflow_add-start
+overflow_add-start c = omega (arith, placing_fits c.loop-place.invariant (omega arith))
 
 pub slice_bounds-fill_place-end : goal.slice_bounds-fill_place-end
 slice_bounds-fill_place-end c = omega (arith, placing_fits c.loop-place.invariant (omega arith))

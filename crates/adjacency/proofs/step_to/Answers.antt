@@ -19,5 +19,4 @@ pub returns-in-4 : goal.returns-in-4
 returns-in-4 c = (rw c.in-4.is, omega arith)
 
 pub returns-in_default : goal.returns-in_default
-returns-in_default c = let r = c.in_default.in_default-own.rest in
-    (simp (ne_eqb _ 0 r.0.0.0.0.1, ne_eqb _ 1 r.0.0.0.1, ne_eqb _ 2 r.0.0.1, ne_eqb _ 3 r.0.1, ne_eqb _ 4 r.1), omega arith)
+returns-in_default c = grind (arith, ne_eqb)

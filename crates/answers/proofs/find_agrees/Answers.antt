@@ -13,4 +13,4 @@ returns c = let f = c in
     let fx : SFits w32 a.q.x = search rules in
     let fy : SFits w32 a.q.y = search rules in
     let fz : SFits w32 a.q.z = search rules in
-    rw (f.probe_find.ensures, c.probe_kind_at.ensures) (simp back32)
+    rw (f.probe_find.ensures, c.probe_kind_at.ensures, c.from.ensures) (simp back32)

@@ -3,6 +3,7 @@ use mathlib.Core.Path.{◌≡◌, sym, ◌∙◌}
 use Prim.Native.Nat.{◌+◌, ◌<◌}
 use native.Mathlib.Omega.{arith}
 use Rattle.columns.specs.Column.{Bytes}
+use Rattle.columns.proofs.Columns.{replicate_rule}
 use Rattle.clearing.specs.Kept.{passes_of}
 use Rattle.clearing.proofs.Going.{passes_few}
 use Rattle.clear.specs.Marks.{holders_of, marked, any_goes}
@@ -18,11 +19,8 @@ more : (p t : Bytes) {holders c : Column} {pass : ℕ} {any : Bool} → Table t 
     → (g.made < passes_of p t) × Passing p t (pass + 1) (marked (holders_of p t) c pass)
 more p t a g filled any goes = passing_more p t a g (sym (rw filled at any) ∙ goes)
 
-pub fill_holders-requires : goal.fill_holders-requires
-fill_holders-requires c = let (table, long, _) = c.requires in (long, table.few)
-
 pub loop-pass-init : goal.loop-pass-init
-loop-pass-init c = passing_none c.args.profile.now c.args.table.now c.requires.0 (rw c.requires.2 at c.fill.ensures)
+loop-pass-init c = passing_none c.args.profile.now c.args.table.now c.requires.0 (rw c.requires.2 at (c.fill.ensures.after (λ y h. h) ∙ replicate_rule _ 0))
 
 pub clear_pass-requires : goal.clear_pass-requires
 clear_pass-requires c =

@@ -1,14 +1,7 @@
 -- Answers of `columns::zeros`.
-use mathlib.Core.Path.{refl}
-use native.Mathlib.Omega.{arith}
-use Rattle.columns.proofs.Columns.{filled_none, filled_more, filled_all}
+use Rattle.std.proofs.Common.{◌∙◌}
+use Rattle.columns.proofs.Columns.{replicate_rule}
 use Rattle.columns.proofs.zeros.Goals as goal
 
-pub loop-i-init : goal.loop-i-init
-loop-i-init c = filled_none refl
-
-pub loop-i-preserved : goal.loop-i-preserved
-loop-i-preserved c = filled_more c.loop-i.invariant (omega arith) refl
-
 pub returns : goal.returns
-returns c = filled_all c.loop-i.invariant (omega arith)
+returns c = c.fill.ensures.after (λ y h. h) ∙ replicate_rule _ _

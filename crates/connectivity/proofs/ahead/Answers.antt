@@ -1,7 +1,7 @@
 -- `connectivity::ahead` meets its contract: a number outside North to West is no horizontal facing. Assumes nothing.
+use Rattle.std.proofs.Common.{Some}
 use mathlib.Core.Path.{ap}
 use borrow.Author.Tests.{lt-leb, le-leb}
-use Rattle.places.specs.declared.Place.TheVariants.{There}
 use Rattle.places.specs.Places.{North, West}
 use Rattle.connectivity.specs.Ports.{ahead}
 use Rattle.connectivity.proofs.ahead.Goals as goal
@@ -18,4 +18,4 @@ returns-then-code-gt-WEST c = let f = c.args.facing.code in
 pub returns : goal.returns
 unfolding ahead
 returns c = let f = c.args.facing.code in
-    rw (le-leb North f c.if-code-lt-NORTH.false, le-leb f West c.if-code-gt-WEST.false) (ap There c.beside.ensures)
+    rw (le-leb North f c.if-code-lt-NORTH.false, le-leb f West c.if-code-gt-WEST.false) (ap Some c.beside.ensures)

@@ -1,7 +1,8 @@
--- `connectivity::repeater_input_pos` meets its contract. Assumes nothing.
-use Rattle.connectivity.specs.Ports.{repeater_input_pos}
+-- `connectivity::repeater_input_pos` meets its contract: the place by a row is `input_of`. Assumes nothing.
+use borrow.Author.Rules.{rules}
+use Rattle.connectivity.specs.Ports.{input_of, repeater_input_pos}
 use Rattle.connectivity.proofs.repeater_input_pos.Goals as goal
 
 pub returns : goal.returns
 unfolding repeater_input_pos
-returns c = cc
+returns c = rw (← c.of_kind.ensures) (c.at_found.ensures (input_of c.args.table.now) (λ i q p. search rules))

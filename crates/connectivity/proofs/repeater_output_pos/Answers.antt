@@ -1,7 +1,8 @@
--- `connectivity::repeater_output_pos` meets its contract. Assumes nothing.
-use Rattle.connectivity.specs.Ports.{repeater_output_pos}
+-- `connectivity::repeater_output_pos` meets its contract: the place by a row is `output_of`. Assumes nothing.
+use borrow.Author.Rules.{rules}
+use Rattle.connectivity.specs.Ports.{output_of, repeater_output_pos}
 use Rattle.connectivity.proofs.repeater_output_pos.Goals as goal
 
 pub returns : goal.returns
 unfolding repeater_output_pos
-returns c = cc
+returns c = rw (← c.of_kind.ensures) (c.at_found.ensures (output_of c.args.table.now) (λ i q p. search rules))

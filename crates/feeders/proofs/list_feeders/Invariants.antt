@@ -1,11 +1,7 @@
 -- `feeders::list_feeders` meets its contract. The loop's invariant: at the front are the feeders at the positions passed. Assumes nothing.
-use Prim.Native.Nat.{◌-◌}
 use Rattle.feeding.specs.Around.{feeder_in}
 use Rattle.feeders.proofs.Fed.{Fed}
 use Rattle.feeders.proofs.list_feeders.Given as goal
 
 abbrev pub invariant-loop-k : goal.invariant-loop-k
-invariant-loop-k l = Fed (feeder_in l.near l.class l.row) l.initial.entries l.k l.count l.entries
-
-abbrev pub decreases-loop-k : goal.decreases-loop-k
-decreases-loop-k l = 12 - l.k
+invariant-loop-k l = Fed (feeder_in l.network.near.now l.network.class.now l.row) l.initial.entries l.k l.count l.entries

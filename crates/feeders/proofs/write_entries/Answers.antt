@@ -10,11 +10,11 @@ unfolding entries_in
 returns-then-is_dust_in c =
     let a = c.args in
     let filled = rw c.requires.entries_len at c.fill.ensures ∙ blank in
-    c.list_feeders.ensures ∙ ap (at_front (rows_among (feeder_in a.near.now a.class.now a.row) 12)) filled
+    c.list_feeders.ensures ∙ ap (at_front (rows_among (feeder_in a.network.near.now a.network.class.now a.row) 12)) filled
 
 pub returns-else-is_dust_in : goal.returns-else-is_dust_in
 returns-else-is_dust_in c =
     let a = c.args in
     let filled = rw c.requires.entries_len at c.fill.ensures ∙ blank in
     let other = rw c.class_at.ensures at (sym c.is_dust_in.ensures ∙ c.if-is_dust_in.false) in
-    filled ∙ sym (entries_none a.near.now a.class.now a.row c.requires.shaped other)
+    filled ∙ sym (entries_none a.network.near.now a.network.class.now a.row c.args.network.shaped other)

@@ -5,4 +5,4 @@ use Rattle.lines.proofs.refusal.Goals as goal
 
 pub returns : goal.returns
 unfolding refusal_text
-returns c = puts_then c.line-next.ensures.puts c.line.ensures.puts
+returns c = puts_then (rw c.from.ensures at c.line-next.ensures.puts) (rw c.from-2.ensures at c.line.ensures.puts)

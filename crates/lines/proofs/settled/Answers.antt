@@ -5,8 +5,7 @@ use Rattle.lines.proofs.settled.Goals as goal
 
 pub returns : goal.returns
 unfolding settled_text
-returns c = let last = c in
-    let second = last in
-    let first = second in
-    let blocks = rw first.rows.ensures at first.line-second.ensures.puts in
-    puts_then (puts_then blocks second.line-third.ensures.puts) last.rows-2.ensures
+returns c =
+    let blocks = rw c.rows.ensures at c.line-second.ensures.puts in
+    let rounds = rw c.from.ensures at c.line-third.ensures.puts in
+    puts_then (puts_then blocks rounds) c.rows-2.ensures

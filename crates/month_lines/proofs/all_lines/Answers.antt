@@ -5,10 +5,6 @@ use Rattle.month_lines.proofs.all_lines.Goals as goal
 
 pub returns : goal.returns
 unfolding month_text
-returns c = let ended = c in
-    let levels = ended in
-    let rounds = levels in
-    let refused = rounds in
-    let tables = refused in
-    let p = puts_then tables.line-second.ensures.puts refused.line-third.ensures.puts in
-    puts_then (puts_then (puts_then p rounds.rounds_lines-fourth.ensures.puts) levels.level_lines-last.ensures.puts) ended.ended_line.ensures
+returns c =
+    let tables = puts_then c.line-second.ensures.puts c.line-third.ensures.puts in
+    puts_then (puts_then (puts_then tables c.numbered_lines-fourth.ensures.puts) c.numbered_lines-last.ensures.puts) c.ended_line.ensures

@@ -7,7 +7,4 @@ use Rattle.power.proofs.fill_direct.Goals as goal
 
 pub returns : goal.returns
 unfolding direct_of circuit
-returns c = let start = c in
-    spread_over _ _ _ _ start.requires.2 _ _ c.spread-2.ensures
-    (spread_zeros _ _ _ _ start.requires.1 _ c.spread.ensures c.zeros.ensures start.requires.3)
-    refl
+returns c = spread_over _ _ _ _ c.requires.1 _ _ c.spread-2.ensures (spread_zeros _ _ _ _ c.requires.0 _ c.spread.ensures c.zeros.ensures c.requires.2) refl

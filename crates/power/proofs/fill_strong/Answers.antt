@@ -6,4 +6,4 @@ use Rattle.power.proofs.fill_strong.Goals as goal
 
 pub returns : goal.returns
 unfolding strong_of circuit
-returns c = let start = c in spread_zeros _ _ _ _ start.requires.1 _ c.spread.ensures c.zeros.ensures start.requires.2
+returns c = spread_zeros _ _ _ _ c.requires.0 _ c.spread.ensures c.zeros.ensures c.requires.1

@@ -22,13 +22,20 @@ ready : (p t : Bytes) {near class : Column} → Table t → near ≡ near_of t �
     → Shaped near class × ((i : ℕ) → row class i < 16777216) × (length class ≡ rows t)
 ready p t table e g = rw (e, g) (shaped_by t (armless_of p t) table (length_armless p t), armless_small p t table, length_armless p t)
 
+pub invariant_of-fill_arms : goal.invariant_of-fill_arms
+invariant_of-fill_arms c =
+    let p = c.args.profile.now in
+    let t = c.args.table.now in
+    let done = filled p t c.fill_armless.ensures c.requires.armless_len.0 in
+    record { shaped = (ready p t c.requires.table.0 c.requires.table.1 done).0 }
+
 pub fill_arms-requires : goal.fill_arms-requires
 fill_arms-requires c =
     let p = c.args.profile.now in
     let t = c.args.table.now in
     let done = filled p t c.fill_armless.ensures c.requires.armless_len.0 in
     let (shaped, small, long) = ready p t c.requires.table.0 c.requires.table.1 done in
-    (shaped, small, c.requires.armless_len.1 ∙ sym long)
+    (small, c.requires.armless_len.1 ∙ sym long)
 
 pub returns : goal.returns
 returns c =

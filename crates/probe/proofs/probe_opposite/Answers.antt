@@ -2,4 +2,4 @@
 use Rattle.probe.proofs.probe_opposite.Goals as goal
 
 pub returns : goal.returns
-returns c = rw (c.opposite.ensures, c.facing_of.ensures)
+returns c = rw (c.from.ensures, c.opposite.ensures, c.facing_of.ensures)

@@ -4,4 +4,4 @@ use Rattle.probe.proofs.probe_resolved.Goals as goal
 
 pub returns : goal.returns
 returns c = let f = c.ranges in
-    rw (c.resolved_wire_connection.ensures, c.before.new.ensures, c.facing_of-code.ensures, back32 _ f.x, back32 _ f.y, back32 _ f.z)
+    rw (c.from.ensures, c.resolved_wire_connection.ensures, c.before.new.ensures, c.facing_of-code.ensures, back32 _ f.x, back32 _ f.y, back32 _ f.z)

@@ -3,15 +3,15 @@ use mathlib.Core.Path.{sym, ◌∙◌}
 use Rattle.refusals.proofs.Accepted.{accepted_input}
 use Rattle.redraw.proofs.update_wire_shapes.Goals as goal
 
-pub returns-in-Refused : goal.returns-in-Refused
-returns-in-Refused c = let told = c.in-Refused.is in
-    let refused = sym c.check_input-checked.ensures ∙ told in
-    record { answer = rw refused (rw told at c.answer.ensures); table = rw refused }
+pub returns-in-Err : goal.returns-in-Err
+returns-in-Err c = let told = c.in-Err.is in
+    let refused = sym c.check_input.ensures ∙ told in
+    record { answer = rw refused c.answer.ensures; table = rw refused }
 
 pub redraw-requires : goal.redraw-requires
 redraw-requires c = let a = c.args in
-    (accepted_input a.profile.now a.table.now (sym c.check_input-checked.ensures ∙ c.in_default.is)).1.whole
+    (accepted_input a.profile.now a.table.now (sym c.check_input.ensures ∙ c.in_default.is)).1.whole
 
 pub returns : goal.returns
-returns c = let none = sym c.check_input-checked.ensures ∙ c.in_default.is in
+returns c = let none = sym c.check_input.ensures ∙ c.in_default.is in
     record { answer = rw none; table = rw none c.redraw.ensures }

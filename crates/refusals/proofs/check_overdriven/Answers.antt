@@ -4,7 +4,4 @@ use Rattle.refusals.proofs.Passed.{row_fits}
 use Rattle.refusals.proofs.check_overdriven.Goals as goal
 
 pub refuse_at-requires : goal.refuse_at-requires
-refuse_at-requires c = rw c.first_overdriven_device.ensures (row_fits _ _ 0 (omega arith))
-
-pub returns : goal.returns
-returns c = rw (← c.first_overdriven_device.ensures) c.refuse_at.ensures
+refuse_at-requires c = rw c.first_overdriven_device-found.ensures (row_fits _ _ 0 (omega arith))

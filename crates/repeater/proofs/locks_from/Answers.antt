@@ -1,9 +1,8 @@
--- `repeater::locks_from` meets its contract, by what was found. Assumes nothing.
+-- Answers of `repeater::locks_from`, by what was found.
 use Rattle.repeater.proofs.locks_from.Goals as goal
 
-pub outputs_into-requires : goal.outputs_into-requires
-outputs_into-requires c = let a = c in
-    (record { table = a.requires.0.table; by = a.requires.0.by; inside = rw c.in-At.is at a.requires.1 }, a.requires.0.inside)
+pub invariant_of-from : goal.invariant_of-from
+invariant_of-from c = let at = c.args.at.prepared in record { prepared = record { table = at.table; by = at.by; inside = rw c.in-At.is at c.requires } }
 
 pub returns : goal.returns
 returns c = rw c.in-At.is (cc c.outputs_into.ensures)

@@ -11,20 +11,20 @@ use Rattle.feeding.proofs.Replacing.{replaced_put, replaced_rows}
 use Rattle.replace.proofs.Checks.{given, replace_accepted}
 use Rattle.replace.proofs.replace.Goals as goal
 
-pub returns-in-Refused : goal.returns-in-Refused
-returns-in-Refused c = let told = c.in-Refused.is in
-    let refused = sym c.check_replace-checked.ensures ∙ told in
-    record { answer = rw refused (rw told at c.answer.ensures); bytes = rw refused refl; entries = rw refused refl }
+pub returns-in-Err : goal.returns-in-Err
+returns-in-Err c = let told = c.in-Err.is in
+    let refused = sym c.check_replace.ensures ∙ told in
+    record { answer = rw refused c.answer.ensures; bytes = rw refused refl; entries = rw refused refl }
 
 pub put_row-requires : goal.put_row-requires
 put_row-requires c =
-    let g = given _ _ _ _ _ (sym c.check_replace-checked.ensures ∙ c.in_default.is) in
+    let g = given _ _ _ _ _ (sym c.check_replace.ensures ∙ c.in_default.is) in
     let r = g.replaceable in
     (omega (arith, r.long), omega (arith, r.inside))
 
 pub update_list-requires : goal.update_list-requires
 update_list-requires c =
-    let g = given _ _ _ _ _ (sym c.check_replace-checked.ensures ∙ c.in_default.is) in
+    let g = given _ _ _ _ _ (sym c.check_replace.ensures ∙ c.in_default.is) in
     let put =
     c.put_row.ensures
     ∙ ap (put_mid (c.args.n * 32) 32 c.args.table.now) (take_all 32 c.args.new.now (omega (arith, g.replaceable.long)))
@@ -33,7 +33,7 @@ update_list-requires c =
 
 pub overflow_cast-result : goal.overflow_cast-result
 overflow_cast-result c =
-    let g = given _ _ _ _ _ (sym c.check_replace-checked.ensures ∙ c.in_default.is) in
+    let g = given _ _ _ _ _ (sym c.check_replace.ensures ∙ c.in_default.is) in
     let put =
     c.put_row.ensures
     ∙ ap (put_mid (c.args.n * 32) 32 c.args.table.now) (take_all 32 c.args.new.now (omega (arith, g.replaceable.long)))
@@ -44,7 +44,7 @@ overflow_cast-result c =
 pub returns : goal.returns
 returns c =
     let a = c.args in
-    let g = given _ _ _ _ _ (sym c.check_replace-checked.ensures ∙ c.in_default.is) in
+    let g = given _ _ _ _ _ (sym c.check_replace.ensures ∙ c.in_default.is) in
     let put =
     c.put_row.ensures
     ∙ ap (put_mid (c.args.n * 32) 32 c.args.table.now) (take_all 32 c.args.new.now (omega (arith, g.replaceable.long)))

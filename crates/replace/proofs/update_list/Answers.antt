@@ -1,17 +1,9 @@
 -- `replace::update_list` meets its contract. Assumes nothing.
 use mathlib.Core.Path.{◌∙◌}
-use Prim.Native.Nat.{◌*◌, ◌-◌, ◌≤◌}
-use native.Mathlib.Omega.{arith}
-use lib.ListN.{replicate}
-use lib.Seq.{length-take-le}
+use Rattle.feeding.proofs.Updated.{updated_found}
 use Rattle.replace.proofs.update_list.Goals as goal
 
-pub update_in-requires : goal.update_in-requires
-update_in-requires c = let n = c.rows-count in
-    let (table, long) = c.requires in
-    let few : n.result ≤ 1024 = omega (arith, n.ensures, table.few) in (
-      table,
-      length-take-le (7 * n.result - 0) (replicate 7168 0) (omega arith) ∙ omega (arith, n.ensures),
-      length-take-le (n.result - 0) (replicate 1024 0) (omega arith) ∙ omega (arith, n.ensures),
-      long,
-    )
+pub returns : goal.returns
+returns c =
+    let a = c.args in
+    c.update_rows.ensures ∙ updated_found a.profile.now a.table.now c.requires.0 a.n a.list.now c.requires.1 c.prepare.ensures.near c.prepare.ensures.class

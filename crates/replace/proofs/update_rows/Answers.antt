@@ -16,9 +16,9 @@ pub loop-i-preserved : goal.loop-i-preserved
 unfolding updated_in
 loop-i-preserved c = let l = c in
     let a = l.args in
-    let entries = entries_in a.near.now a.class.now l.loop-i.i in
-    let twelve = entries_long a.near.now a.class.now l.loop-i.i in
-    let list_long = l.requires.class_len.1 in
+    let entries = entries_in a.network.near.now a.network.class.now l.loop-i.i in
+    let twelve = entries_long a.network.near.now a.network.class.now l.loop-i.i in
+    let list_long = l.requires.1 in
     let lent = length_part 12 l.loop-i.list l.loop-i.i (omega (arith, l.loop-i.invariant.1)) in
     let renewed = c.is_renewed.ensures in
     elim c.if-is_renewed.branch [
@@ -38,4 +38,4 @@ shape_of-list c = c.loop-i.invariant.1
 
 pub returns : goal.returns
 returns c = let l = c in
-    written_all l.loop-i.invariant.2 _ (omega (arith, l.loop-i.invariant.0)) l.requires.class_len.1
+    written_all l.loop-i.invariant.2 _ (omega (arith, l.loop-i.invariant.0)) l.requires.1

@@ -4,8 +4,8 @@ use Rattle.sim.proofs.Passing.{passed_fresh, few, front, device_lengths}
 use Rattle.sim.proofs.Answers.{fresh_done, fresh_refused}
 use Rattle.sim.proofs.fresh.Goals as goal
 
-pub returns-in-Refused : goal.returns-in-Refused
-returns-in-Refused c = fresh_refused c.check_fresh-checked.ensures c.in-Refused.is c.answer.ensures
+pub returns-in-Err : goal.returns-in-Err
+returns-in-Err c = fresh_refused c.check_fresh-checked.ensures c.in-Err.is c.answer.ensures
 
 pub slice_bounds-devices-end : goal.slice_bounds-devices-end
 slice_bounds-devices-end c =

@@ -5,20 +5,19 @@ use lib.ListN.{length}
 use Rattle.columns.specs.Column.{Bytes, Column}
 use Rattle.places.specs.declared.Pos.{Pos}
 use Rattle.places.proofs.Signs.{back32}
-use Rattle.refusals.specs.declared.Checked.{Checked}
-use Rattle.refusals.specs.declared.Checked.TheVariants.{Accepted}
+use Rattle.refusals.specs.Check.{Checked, accepted}
 use Rattle.switching.specs.Switch.{switched}
 use Rattle.updates.specs.Calls.{check_step}
 use Rattle.sim.proofs.Passing.{Turned, passed_step, few, front, device_lengths, switch_ready, switch_outputs, switch_rounds, switch_holds}
 use Rattle.sim.proofs.Answers.{switch_done, switch_refused}
 use Rattle.sim.proofs.switch.Goals as goal
 
-pub returns-in-Refused : goal.returns-in-Refused
-returns-in-Refused c = switch_refused c.check_step-checked.ensures c.in-Refused.is c.answer.ensures
+pub returns-in-Err : goal.returns-in-Err
+returns-in-Err c = switch_refused c.check_step-checked.ensures c.in-Err.is c.answer.ensures
 
 -- where nothing is refused, and the table is switched
 turned : (p t u st : Bytes) (signal weak strong : Column) {q there : Pos} {power : ℕ} {checked : Checked} → u ≡ switched t there power → there ≡ q
-    → checked ≡ check_step p t st (length signal) (length weak) (length strong) → checked ≡ Accepted → Turned p t u st q power signal weak strong
+    → checked ≡ check_step p t st (length signal) (length weak) (length strong) → checked ≡ accepted → Turned p t u st q power signal weak strong
 turned p t u st signal weak strong is same check none = record { is = rw same at is; passed = passed_step _ _ _ _ _ _ (sym check ∙ none) }
 
 pub slice_bounds-devices-end : goal.slice_bounds-devices-end

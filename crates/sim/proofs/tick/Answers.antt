@@ -4,8 +4,8 @@ use Rattle.sim.proofs.Passing.{passed_tick, few, front, device_lengths}
 use Rattle.sim.proofs.Answers.{ticks_done, ticks_refused}
 use Rattle.sim.proofs.tick.Goals as goal
 
-pub returns-in-Refused : goal.returns-in-Refused
-returns-in-Refused c = ticks_refused c.check_tick-checked.ensures c.in-Refused.is c.answer.ensures
+pub returns-in-Err : goal.returns-in-Err
+returns-in-Err c = ticks_refused c.check_tick-checked.ensures c.in-Err.is c.answer.ensures
 
 pub slice_bounds-devices-end : goal.slice_bounds-devices-end
 slice_bounds-devices-end c =

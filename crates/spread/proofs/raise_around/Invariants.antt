@@ -4,7 +4,4 @@ use Rattle.spread.proofs.RaisedSinks.{Around}
 use Rattle.spread.proofs.raise_around.Given as goal
 
 abbrev pub invariant-loop-f : goal.invariant-loop-f
-invariant-loop-f l = Around l.near l.class l.j l.level l.initial.out l.f l.out
-
-abbrev pub decreases-loop-f : goal.decreases-loop-f
-decreases-loop-f l = 4 - l.f
+invariant-loop-f l = Around l.network.near.now l.network.class.now l.j l.level l.initial.out l.f l.out

@@ -7,8 +7,7 @@ pub loop-k-init : goal.loop-k-init
 loop-k-init c = raised_none
 
 pub loop-k-preserved : goal.loop-k-preserved
-loop-k-preserved c = let turn = c in
-    raised_more turn.loop-k.invariant (omega arith) (rw (← turn.sink_of.ensures) turn.raise.ensures)
+loop-k-preserved c = raised_more c.loop-k.invariant (omega arith) (rw (← c.sink_of.ensures) c.raise.ensures)
 
 pub returns : goal.returns
 returns c = raised_all c.loop-k.invariant (omega arith) c.requires.out_len

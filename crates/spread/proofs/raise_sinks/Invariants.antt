@@ -5,7 +5,4 @@ use Rattle.spread.proofs.RaisedSinks.{Raised}
 use Rattle.spread.proofs.raise_sinks.Given as goal
 
 abbrev pub invariant-loop-k : goal.invariant-loop-k
-invariant-loop-k l = Raised l.edge l.near l.class l.j l.level l.initial.out l.k l.out
-
-abbrev pub decreases-loop-k : goal.decreases-loop-k
-decreases-loop-k l = ways l.edge - l.k
+invariant-loop-k l = Raised l.edge l.network.near.now l.network.class.now l.j l.level l.initial.out l.k l.out

@@ -5,7 +5,4 @@ use Rattle.spread.proofs.Spreads.{Spread}
 use Rattle.spread.proofs.spread.Given as goal
 
 abbrev pub invariant-loop-j : goal.invariant-loop-j
-invariant-loop-j l = Spread l.edge l.near l.class l.loss l.levels l.initial.out l.j l.out
-
-abbrev pub decreases-loop-j : goal.decreases-loop-j
-decreases-loop-j l = length l.levels - l.j
+invariant-loop-j l = Spread l.edge l.network.near.now l.network.class.now l.loss l.levels l.initial.out l.j l.out

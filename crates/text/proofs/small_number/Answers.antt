@@ -5,8 +5,8 @@ use Rattle.text.proofs.Decimal.{decimal_few}
 use Rattle.text.proofs.small_number.Goals as goal
 
 pub digits_then-requires : goal.digits_then-requires
-digits_then-requires c = omega (arith, decimal_few c.args.n 1 (omega (arith, c.requires.0)))
+digits_then-requires c = rw c.from.ensures (omega (arith, decimal_few c.args.n 1 (omega (arith, c.requires.0))))
 
 pub returns : goal.returns
-returns c = let p = c.digits_then.ensures in
+returns c = let p = rw c.from.ensures at c.digits_then.ensures in
     record { puts = p; few = omega (arith, simp length-append at p.end, decimal_few c.args.n 1 (omega (arith, c.requires.0))) }

@@ -20,8 +20,9 @@ returns-then-well_formed c =
     let before = c.slice_of-before.result.now in
     let s = small c.args.r.now 7 20 (sym c.well_formed-2.ensures ∙ c.if-well_formed.true) c.slice_of-before.ensures c.rows-n.ensures in
     let short : length before ≤ 2048 = rw c.slice_of-before.ensures s.table in
+    let blank = c.blank_columns.ensures in
     let lent : take (length before) c.copied-table.result ≡ before = rw c.copied-table.ensures (front_copied before short) in
-    rw (← c.well_formed-2.ensures, c.if-well_formed.true, ← lent_blank 64 s.few s.is, ← c.slice_of-before.ensures, ← lent) c.switch_in.ensures
+    rw (← c.well_formed-2.ensures, c.if-well_formed.true) (rw (lent, c.slice_of-before.ensures, lent_blank s.few blank.signal s.is, lent_blank s.few blank.weak s.is, lent_blank s.few blank.strong s.is) at c.switch_in.ensures)
 
 pub returns : goal.returns
 unfolding switch_right

@@ -23,8 +23,9 @@ returns-then-well_formed_ticks c =
     let formed : well_formed_ticks r ≡ true = sym c.well_formed_ticks.ensures ∙ c.if-well_formed_ticks.true in
     let s = small r 7 12 (ticks_form r formed) c.slice_of.ensures c.rows-n.ensures in
     let short : length before ≤ 2048 = rw c.slice_of-before.ensures (ticks_state r formed) in
+    let blank = c.blank_columns.ensures in
     let lent : take (length before) c.copied-state.result ≡ before = rw c.copied-state.ensures (front_copied before short) in
-    rw (← c.well_formed_ticks.ensures, c.if-well_formed_ticks.true, ← lent_blank 64 s.few s.is, ← c.slice_of-before.ensures, ← lent) c.ticks_in.ensures
+    rw (← c.well_formed_ticks.ensures, c.if-well_formed_ticks.true) (rw (lent, c.slice_of-before.ensures, lent_blank s.few blank.signal s.is, lent_blank s.few blank.weak s.is, lent_blank s.few blank.strong s.is) at c.ticks_in.ensures)
 
 pub returns : goal.returns
 unfolding ticks_right

@@ -13,4 +13,4 @@ returns c = let inferred = c in
     let fx : SFits w32 a.q.x = search rules in
     let fy : SFits w32 a.q.y = search rules in
     let fz : SFits w32 a.q.z = search rules in
-    rw (inferred.probe_infer.ensures, c.probe_resolved.ensures) (simp back32)
+    rw (inferred.probe_infer.ensures, c.probe_resolved.ensures, c.from-f.ensures, c.from.ensures, c.from-2.ensures) (simp back32)

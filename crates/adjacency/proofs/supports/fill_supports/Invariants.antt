@@ -1,5 +1,4 @@
 -- `adjacency::supports::fill_supports` meets its contract. The loop's invariant: the supports of the rows passed are found. Assumes nothing.
-use Prim.Native.Nat.{◌-◌}
 use Rattle.columns.proofs.Columns.{Filled}
 use Rattle.world.specs.Rows.{rows}
 use Rattle.adjacency.specs.Adjacency.{row_by}
@@ -7,6 +6,3 @@ use Rattle.adjacency.proofs.supports.fill_supports.Given as goal
 
 abbrev pub invariant-loop-i : goal.invariant-loop-i
 invariant-loop-i l = Filled (λ k. row_by l.table k 6) (rows l.table) l.i l.out
-
-abbrev pub decreases-loop-i : goal.decreases-loop-i
-decreases-loop-i l = rows l.table - l.i

@@ -1,6 +1,6 @@
 -- Answers of `figures::dust::with_levels`.
 use mathlib.Core.Path.{◌≡◌, refl, sym, ◌∙◌}
-use Prim.Native.Nat.{ℕ, ◌<◌, zero-le}
+use Prim.Native.Nat.{ℕ, ◌<◌}
 use native.Mathlib.Omega.{arith}
 use lib.ListN.{length}
 use borrow.Author.Tests.{eq-eqb, ne_eqb}
@@ -21,45 +21,41 @@ level {t} {s} {n} {i} capped counted h is dust at =
 pub loop-i-init : goal.loop-i-init
 unfolding count_below
 loop-i-init c = let sized : length c.args.levels ≡ 16 = omega arith in
-    (c.rows-n.ensures, zero-le, added_same (added_none {old = c.args.levels} sized) (λ l h. refl))
+    added_same (added_none {old = c.args.levels} sized) (λ l h. refl)
 
 pub offset_bounds-counts-level : goal.offset_bounds-counts-level
 offset_bounds-counts-level c =
-    record { fits = omega (arith, level c.requires.capped c.loop-i.invariant.0 c.loop-i-test.true c.kind_of.ensures c.if-kind_of-eq-REDSTONE_WIRE.true c.byte_at-level.ensures) }
+    record { fits = omega (arith, level c.requires.capped c.rows-i-end.ensures c.loop-i-test.true c.kind_of.ensures c.if-kind_of-eq-REDSTONE_WIRE.true c.byte_at-level.ensures) }
 
 pub bounds-counts-level : goal.bounds-counts-level
 bounds-counts-level c =
-    level c.requires.capped c.loop-i.invariant.0 c.loop-i-test.true c.kind_of.ensures c.if-kind_of-eq-REDSTONE_WIRE.true c.byte_at-level.ensures
+    level c.requires.capped c.rows-i-end.ensures c.loop-i-test.true c.kind_of.ensures c.if-kind_of-eq-REDSTONE_WIRE.true c.byte_at-level.ensures
 
 pub overflow_add-counts : goal.overflow_add-counts
 overflow_add-counts c =
     let at = c.byte_at-level.result in
     let here = is_dust_at c.args.table.now c.args.signal.now at in
-    let low = level c.requires.capped c.loop-i.invariant.0 c.loop-i-test.true c.kind_of.ensures c.if-kind_of-eq-REDSTONE_WIRE.true c.byte_at-level.ensures in
-    record { fits = rw (c.loop-i.invariant.2.counts at low) (omega (arith, c.loop-i.invariant.0, c.requires.by_index at, c.requires.capped.few, count_most here c.loop-i.i)) }
+    let low = level c.requires.capped c.rows-i-end.ensures c.loop-i-test.true c.kind_of.ensures c.if-kind_of-eq-REDSTONE_WIRE.true c.byte_at-level.ensures in
+    record { fits = rw (c.loop-i.invariant.counts at low) (omega (arith, c.rows-i-end.ensures, c.requires.by_index at, c.requires.capped.few, count_most here c.loop-i.i)) }
 
 pub bounds-counts-level-then-kind_of-eq-REDSTONE_WIRE : goal.bounds-counts-level-then-kind_of-eq-REDSTONE_WIRE
 bounds-counts-level-then-kind_of-eq-REDSTONE_WIRE c =
-    level c.requires.capped c.loop-i.invariant.0 c.loop-i-test.true c.kind_of.ensures c.if-kind_of-eq-REDSTONE_WIRE.true c.byte_at-level.ensures
+    level c.requires.capped c.rows-i-end.ensures c.loop-i-test.true c.kind_of.ensures c.if-kind_of-eq-REDSTONE_WIRE.true c.byte_at-level.ensures
 
 pub loop-i-preserved : goal.loop-i-preserved
 loop-i-preserved c = let table = c.args.table.now in
     let signal = c.args.signal.now in
     let i = c.loop-i.i in
     let inv = c.loop-i.invariant in
-    let kind = c.kind_of.ensures in (
-      inv.0,
-      omega arith,
-      elim c.if-kind_of-eq-REDSTONE_WIRE.branch [
-        | then-kind_of-eq-REDSTONE_WIRE w ↦
-            let low = level c.requires.capped inv.0 c.loop-i-test.true kind w.if-kind_of-eq-REDSTONE_WIRE.true w.byte_at-level.ensures in
-            rw (w.counts-is, w.byte_at-level.ensures) (added_dust table signal i inv.2 (eq-eqb (kind_of table i) 3 (sym kind ∙ w.if-kind_of-eq-REDSTONE_WIRE.true)) (rw w.byte_at-level.ensures at low))
-        | else-kind_of-eq-REDSTONE_WIRE w ↦
-            rw w.counts-is (added_other table signal i inv.2 (ne_eqb (kind_of table i) 3 (λ e. w.if-kind_of-eq-REDSTONE_WIRE.false (kind ∙ e))))
-      ],
-    )
+    let kind = c.kind_of.ensures in
+    elim c.if-kind_of-eq-REDSTONE_WIRE.branch [
+      | then-kind_of-eq-REDSTONE_WIRE w ↦
+          let low = level c.requires.capped c.rows-i-end.ensures c.loop-i-test.true kind w.if-kind_of-eq-REDSTONE_WIRE.true w.byte_at-level.ensures in
+          rw (w.counts-is, w.byte_at-level.ensures) (added_dust table signal i inv (eq-eqb (kind_of table i) 3 (sym kind ∙ w.if-kind_of-eq-REDSTONE_WIRE.true)) (rw w.byte_at-level.ensures at low))
+      | else-kind_of-eq-REDSTONE_WIRE w ↦
+          rw w.counts-is (added_other table signal i inv (ne_eqb (kind_of table i) 3 (λ e. w.if-kind_of-eq-REDSTONE_WIRE.false (kind ∙ e))))
+    ]
 
 pub returns : goal.returns
-returns c = let l = c in
-    let all : l.loop-i.i ≡ rows l.args.table.now = rw (← l.loop-i.invariant.0) (omega arith) in
-    rw (← all) (added_is l.loop-i.invariant.2)
+returns c = let all : c.loop-i.i ≡ rows c.args.table.now = omega (arith, c.rows-i-end.ensures) in
+    rw (← all) (added_is c.loop-i.invariant)

@@ -5,9 +5,9 @@ use Rattle.keys.proofs.Passing.{Bounds, within_level, passing_none, passing_skip
 use Rattle.keys.proofs.pass.pass_level.Goals as goal
 
 pub loop-j-init : goal.loop-j-init
-loop-j-init c = let start = c in
+loop-j-init c =
     let bounds : Bounds _ _ _ = record { is_low = c.own_key-low.ensures; is_high = c.own_key-high.ensures } in
-    (bounds, passing_skip (passing_none start.requires.1) bounds c.next_within-j.ensures.skipped, c.next_within-j.ensures.found)
+    (bounds, passing_skip (passing_none c.requires.0) bounds c.next_within-j.ensures.skipped, c.next_within-j.ensures.found)
 
 pub overflow_sub-keys : goal.overflow_sub-keys
 overflow_sub-keys c = let inv = c.loop-j.invariant in
@@ -19,10 +19,9 @@ loop-j-smaller c = omega (arith, c.next_within-j-in-loop-j.ensures.skipped.from)
 
 pub loop-j-preserved : goal.loop-j-preserved
 unfolding spread_from
-loop-j-preserved c = let l = c in
-    let start = l in
-    let inv = l.loop-j.invariant in
-    let more = passing_more inv.1 inv.0 (omega arith) start.requires.2 (inv.2 (omega arith)) c.spread_from.ensures in
+loop-j-preserved c =
+    let inv = c.loop-j.invariant in
+    let more = passing_more inv.1 inv.0 (omega arith) c.requires.1 (inv.2 (omega arith)) c.spread_from.ensures in
     (inv.0, passing_skip more inv.0 c.next_within-j-in-loop-j.ensures.skipped, c.next_within-j-in-loop-j.ensures.found)
 
 pub returns : goal.returns

@@ -13,7 +13,7 @@ use Rattle.keys.proofs.pass.pass_level.Given as goal
 
 abbrev pub invariant-loop-j : goal.invariant-loop-j
 invariant-loop-j l = Bounds l.level l.low l.high
-    × Passing (length l.class) (edge_in l.near l.class Transmits) l.level l.initial.keys l.j l.keys
+    × Passing (length l.network.class.now) (edge_in l.network.near.now l.network.class.now Transmits) l.level l.initial.keys l.j l.keys
     × (l.j < length l.keys → is_within l.low l.high (row l.keys l.j) ≡ true)
 
 abbrev pub decreases-loop-j : goal.decreases-loop-j

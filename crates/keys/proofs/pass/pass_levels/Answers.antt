@@ -7,13 +7,14 @@ use Rattle.keys.proofs.Passing.{given_start, given_kept}
 use Rattle.keys.proofs.pass.pass_levels.Goals as goal
 
 pub loop-level-init : goal.loop-level-init
-loop-level-init c = (omega arith, given_start _ _ _ c.requires.1 c.requires.2)
+loop-level-init c = (omega arith, given_start _ _ _ c.requires.0 c.requires.1)
 
 pub loop-level-preserved : goal.loop-level-preserved
-loop-level-preserved c = let l = c in
-    let fewer : 16 * l.loop-level.level - 16 ≡ 16 * (l.loop-level.level - 1) = omega arith in
-    (omega arith, rw fewer at (c.pass_level.ensures.next (row l.args.keys.now) l.loop-level.invariant.1))
+loop-level-preserved c =
+    let fewer : 16 * c.loop-level.level - 16 ≡ 16 * (c.loop-level.level - 1) = omega arith in
+    (omega arith, rw fewer at (c.pass_level.ensures.next (row c.args.keys.now) c.loop-level.invariant.1))
 
 pub returns : goal.returns
-returns c = let last : c.loop-level.level ≡ 1 = omega (arith, c.loop-level.invariant.0) in
+returns c =
+    let last : c.loop-level.level ≡ 1 = omega (arith, c.loop-level.invariant.0) in
     given_kept _ _ _ _ (rw last at c.loop-level.invariant.1)

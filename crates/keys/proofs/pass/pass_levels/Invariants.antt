@@ -8,7 +8,4 @@ use Rattle.keys.specs.Pass.{Given}
 use Rattle.keys.proofs.pass.pass_levels.Given as goal
 
 abbrev pub invariant-loop-level : goal.invariant-loop-level
-invariant-loop-level l = (1 ≤ l.level) × Given (length l.class) (edge_in l.near l.class Transmits) (row l.initial.keys) (λ _. 16 * l.level) l.keys
-
-abbrev pub decreases-loop-level : goal.decreases-loop-level
-decreases-loop-level l = l.level
+invariant-loop-level l = (1 ≤ l.level) × Given (length l.network.class.now) (edge_in l.network.near.now l.network.class.now Transmits) (row l.initial.keys) (λ _. 16 * l.level) l.keys

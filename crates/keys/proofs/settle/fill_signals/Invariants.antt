@@ -1,6 +1,5 @@
 -- `keys::settle::fill_signals` meets its contract. The loop's invariant: the first i rows are the rule's. Assumes nothing.
 use mathlib.Core.Bool.{cond}
-use Prim.Native.Nat.{◌-◌}
 use lib.ListN.{length}
 use Rattle.columns.specs.Column.{row}
 use Rattle.columns.proofs.Columns.{Filled}
@@ -11,6 +10,3 @@ use Rattle.keys.proofs.settle.fill_signals.Given as goal
 
 abbrev pub invariant-loop-i : goal.invariant-loop-i
 invariant-loop-i l = Filled (λ k. cond (is_dust (kind_in (row l.class k))) (level_of (row l.keys k)) (row l.emitted k)) (length l.initial.signal) l.i l.signal
-
-abbrev pub decreases-loop-i : goal.decreases-loop-i
-decreases-loop-i l = length l.initial.signal - l.i

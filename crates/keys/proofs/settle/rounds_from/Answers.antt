@@ -11,7 +11,7 @@ unfolding rounds_from
 returns-then-none_mapped c = let none : none_mapped c.args.class.now ≡ true = sym c.none_mapped.ensures ∙ c.if-none_mapped.true in
     rw (c.last_of.ensures, none) (omega arith)
 
-pub returns : goal.returns
+pub returns-else-none_mapped : goal.returns-else-none_mapped
 unfolding rounds_from
-returns c = let some : none_mapped c.args.class.now ≡ false = sym c.none_mapped.ensures ∙ c.if-none_mapped.false in
-    c.larger_of.ensures ∙ rw (c.last_of.ensures, c.last_shown.ensures, some)
+returns-else-none_mapped c = let some : none_mapped c.args.class.now ≡ false = sym c.none_mapped.ensures ∙ c.if-none_mapped.false in
+    c.max.ensures ∙ rw (c.last_of.ensures, c.last_shown.ensures, some)

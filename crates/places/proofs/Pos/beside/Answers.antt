@@ -1,4 +1,5 @@
 -- `places::Pos::beside` meets its contract, by the step that `horizontal_offset` gives, or by none. Assumes nothing.
+use Rattle.std.proofs.Common.{Option, Some, None}
 use mathlib.Core.Path.{◌≡◌, refl, sym, ap, ◌∙◌}
 use mathlib.Core.Bool.{Bool, true, false, cond, false≢true}
 use Prim.Native.Nat.{ℕ}
@@ -11,15 +12,13 @@ use Rattle.places.proofs.Signs.{back32}
 use Rattle.places.specs.Signed.{zero_z}
 use Rattle.places.specs.Places.{North, East, South, West, cell, offset, step, is_horizontal, horizontal_offset, beside}
 use Rattle.places.specs.declared.Pos.{Pos}
-use Rattle.places.specs.declared.Place.{Place}
-use Rattle.places.specs.declared.Place.TheVariants.{There, Nowhere}
 use Rattle.places.proofs.Pos.beside.Goals as goal
 
 -- the step to a place, and no step to nowhere
 
-abbrev step_or : Place → Pos
-step_or (There d) = d
-step_or Nowhere = cell zero_z zero_z zero_z
+abbrev step_or : Option Pos → Pos
+step_or (Some d) = d
+step_or None = cell zero_z zero_z zero_z
 
 -- a facing that is not horizontal is none of the four
 
@@ -34,11 +33,11 @@ step_is : (f : ℕ) → step_or (horizontal_offset f) ≡ step f
 unfolding horizontal_offset step
 step_is f = go (is_horizontal f) refl
   where
-    go : (b : Bool) → is_horizontal f ≡ b → step_or (cond b (There (step f)) Nowhere) ≡ step f
+    go : (b : Bool) → is_horizontal f ≡ b → step_or (cond b (Some (step f)) None) ≡ step f
     go true e = refl
     go false e = rw (other f North refl e, other f East refl e, other f South refl e, other f West refl e)
 
-beside_is : (q : Pos) (f : ℕ) {found : Place} → horizontal_offset f ≡ found
+beside_is : (q : Pos) (f : ℕ) {found : Option Pos} → horizontal_offset f ≡ found
     → offset q (step_or found).x zero_z (step_or found).z ≡ beside q f
 unfolding beside
 beside_is q f h = ap (λ d. offset q d.x zero_z d.z) (sym (ap step_or h) ∙ step_is f)
@@ -48,7 +47,7 @@ returns-in_default c = c.offset.ensures ∙ beside_is _ _ (sym c.horizontal_offs
 
 pub returns : goal.returns
 returns c =
-    let fx : SFits w32 c.in-There.step.x = search rules in
-    let fz : SFits w32 c.in-There.step.z = search rules in
+    let fx : SFits w32 c.in-Some.step.x = search rules in
+    let fz : SFits w32 c.in-Some.step.z = search rules in
     rw (c.offset-2.ensures, back32 _ fx, back32 _ fz)
-    (beside_is _ _ (sym c.horizontal_offset.ensures ∙ c.in-There.is))
+    (beside_is _ _ (sym c.horizontal_offset.ensures ∙ c.in-Some.is))

@@ -1,18 +1,7 @@
--- `places::Pos::same` meets its contract: a test of two coordinates' bits is a test of the coordinates. Assumes nothing.
-use borrow.Author.Rules.{rules}
-use mir.Syntax.{w32}
-use mir.Val.{SFits}
-use Rattle.places.specs.Places.{same_pos}
-use Rattle.places.proofs.Signs.{same_bits}
+-- `places::Pos::same` meets its contract: the derived test is coordinate by coordinate. Assumes nothing.
+use mathlib.Core.Path.{◌∙◌}
+use Rattle.places.proofs.Signs.{same_is}
 use Rattle.places.proofs.Pos.same.Goals as goal
 
 pub returns : goal.returns
-unfolding same_pos
-returns c = let s = c in
-    let px : SFits w32 s.args.self.x = search rules in
-    let py : SFits w32 s.args.self.y = search rules in
-    let pz : SFits w32 s.args.self.z = search rules in
-    let qx : SFits w32 s.args.other.x = search rules in
-    let qy : SFits w32 s.args.other.y = search rules in
-    let qz : SFits w32 s.args.other.z = search rules in
-    simp same_bits
+returns c = c.eq.ensures ∙ same_is _ _

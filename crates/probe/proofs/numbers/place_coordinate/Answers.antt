@@ -6,9 +6,9 @@ use mir.Val.{SFits}
 use Rattle.places.proofs.Signs.{back32}
 use Rattle.probe.proofs.numbers.place_coordinate.Goals as goal
 
-pub returns-in-There : goal.returns-in-There
-returns-in-There c = let r : SFits w32 c.coordinate.result = sfits_of c.coordinate.type_inv in
-    rw c.in-There.is (back32 _ r ∙ c.coordinate.ensures)
+pub returns-in-Some : goal.returns-in-Some
+returns-in-Some c = let r : SFits w32 c.coordinate.result = sfits_of c.coordinate.type_inv in
+    rw c.in-Some.is (back32 _ r ∙ c.coordinate.ensures)
 
-pub returns-in-Nowhere : goal.returns-in-Nowhere
-returns-in-Nowhere c = rw c.in-Nowhere.is
+pub returns-in-None : goal.returns-in-None
+returns-in-None c = rw c.in-None.is

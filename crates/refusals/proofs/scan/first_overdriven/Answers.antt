@@ -1,23 +1,8 @@
--- Answers of `refusals::scan::first_overdriven`.
-use mathlib.Core.Path.{sym, ◌∙◌}
-use native.Mathlib.Nat.{sub-zero}
-use native.Mathlib.Omega.{arith}
-use Rattle.columns.proofs.First.{scan_hit, scan_miss, scan_over}
+-- `refusals::scan::first_overdriven` meets its contract. Assumes nothing.
+use Rattle.std.proofs.Common.{rules}
 use Rattle.refusals.proofs.Lent.{lent_overdriven}
+use Rattle.refusals.specs.Check.{is_overdriven}
 use Rattle.refusals.proofs.scan.first_overdriven.Goals as goal
 
-pub loop-i-init : goal.loop-i-init
-loop-i-init c = (omega arith, c.requires, rw sub-zero)
-
-pub returns-then-is_overdriven : goal.returns-then-is_overdriven
-returns-then-is_overdriven c = let l = c in
-    let a = l.args in
-    sym (l.loop-i.invariant.2 ∙ scan_hit _ _ _ (omega arith) (sym (lent_overdriven a.table.now l.loop-i.i) ∙ sym c.is_overdriven.ensures ∙ c.if-is_overdriven.true))
-
-pub loop-i-preserved : goal.loop-i-preserved
-loop-i-preserved c = let l = c in
-    let a = l.args in
-    (omega arith, l.loop-i.invariant.1, l.loop-i.invariant.2 ∙ scan_miss _ _ _ (omega arith) (sym (lent_overdriven a.table.now l.loop-i.i) ∙ sym c.is_overdriven.ensures ∙ c.if-is_overdriven.false))
-
 pub returns : goal.returns
-returns c = sym (c.loop-i.invariant.2 ∙ scan_over _ _ _ (omega arith))
+returns c = c.first_index.ensures (is_overdriven c.args.table.now) (λ i b l p. search (lent_overdriven c.args.table.now i, rules))

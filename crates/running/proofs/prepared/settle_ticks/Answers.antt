@@ -44,5 +44,5 @@ shape_of-strong c = c.loop-done.invariant.1.strong_rows ∙ sym c.requires.2.str
 pub returns : goal.returns
 returns c =
     let inv = c.loop-done.invariant in
-    let all : c.loop-done.done ≡ c.args.count = omega arith in
+    let all : c.loop-done._done ≡ c.args.count = omega arith in
     record { next = rw all at inv.2.state; rounds = inv.2.rounds; columns = inv.2.columns }

@@ -1,5 +1,6 @@
 -- Answers of `wire::transfer::dust_transfer`.
-use mathlib.Core.Path.{refl, sym, ◌∙◌}
+use Rattle.std.proofs.Common.{Some}
+use mathlib.Core.Path.{refl, sym, ap, ◌∙◌}
 use native.Mathlib.Omega.{arith}
 use Rattle.wire.specs.Transfer.{transfer_by, dust_transfer}
 use Rattle.wire.proofs.Found.{transfer_found}
@@ -46,5 +47,5 @@ pub returns-then-fits : goal.returns-then-fits
 returns-then-fits c =
     let between = transfer_found _ _ _ _ _ _ (sym c.find.ensures ∙ c.in-At.is) (sym c.find-2.ensures ∙ c.in-At-find.is) in
     let first = between ∙ from_first _ _ _ _ _ (sym c.are_dust.ensures ∙ c.if-not-are_dust.false) in
-    c.rule_of-found.ensures
+    ap Some c.rule_of.ensures
     ∙ sym (first ∙ c.heights.invariant.4 ∙ hit _ _ _ _ _ _ c.heights.height _ (omega arith) c.fits.ensures c.if-fits.true)

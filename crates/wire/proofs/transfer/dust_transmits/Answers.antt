@@ -4,4 +4,4 @@ use Rattle.wire.proofs.transfer.dust_transmits.Goals as goal
 
 pub returns : goal.returns
 unfolding dust_transmits
-returns c = cc
+returns c = rw (← c.dust_transfer.ensures) c.is_some.ensures

@@ -15,4 +15,4 @@ returns-then-facing-gt-WEST c = rw (le-leb North c.args.facing c.if-facing-lt-NO
 pub returns : goal.returns
 unfolding arm_entry
 returns c = let f = c.args.facing in
-    rw (le-leb North f c.if-facing-lt-NORTH.false, le-leb f West c.if-facing-gt-WEST.false) c.byte_of.ensures
+    rw (le-leb North f c.if-facing-lt-NORTH.false, le-leb f West c.if-facing-gt-WEST.false, ← c.from.ensures) c.byte_of.ensures

@@ -1,2 +1,0 @@
--- Laws that the proofs of the programs cite.
-pub mod Inputs

@@ -1,7 +1,0 @@
--- `rounds::settle::settle_in` meets its contract. Assumes nothing.
-use borrow.Author.Rules.{rules}
-use Rattle.rounds.proofs.Rounds.{solves}
-use Rattle.rounds.proofs.settle.settle_in.Goals as goal
-
-pub returns : goal.returns
-returns c = search (solves, rules)

@@ -1,9 +1,0 @@
--- `streams::full_ending` meets its contract. Assumes nothing.
-use borrow.Author.Tests.{eq-eqb, ne_eqb}
-use Rattle.streams.proofs.full_ending.Goals as goal
-
-pub returns-then-s-eq0 : goal.returns-then-s-eq0
-returns-then-s-eq0 c = simp (eq-eqb _ _ c.if-s-eq0.true)
-
-pub returns : goal.returns
-returns c = simp (ne_eqb _ _ c.if-s-eq0.false)
