@@ -10,7 +10,7 @@ use records::{columns_agree, number, slice_of, well_formed};
 use world::row::rows;
 
 // What every byte of a buffer that a call is to fill is before it.
-const BLANK: u8 = 195;
+pub const BLANK: u8 = 195;
 
 // Three columns for a call to fill, which is lent an entry of each for every row.
 pub fn blank_columns() -> ([u8; 64], [u8; 64], [u8; 64])

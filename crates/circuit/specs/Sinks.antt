@@ -4,8 +4,8 @@ use Rattle.std.specs.Prelude.{Bool, true, ◌&&◌, ℕ, ◌+◌}
 use Rattle.columns.specs.Column.{Column, row}
 use Rattle.blocks.specs.Kind.{is_dust}
 use Rattle.places.specs.Places.{opposite}
-use Rattle.classes.specs.Class.{drives_in, kind_in, arm_in, rises_by_in}
-use Rattle.classes.specs.Towards.{Above}
+use Rattle.classes.specs.Class.{weak_in, strong_in, drives_in, kind_in, arm_in, rises_by_in}
+use Rattle.classes.specs.Towards.{Above, touched_in}
 use Rattle.circuit.specs.Circuit.{sink_if, beside_in}
 use Rattle.circuit.specs.declared.Edge.{Edge}
 use Rattle.circuit.specs.declared.Edge.TheVariants.{EmittedToStrong, StrongToWeak, DustToWeak, Transmits, EmittedToDust, StrongToDust}
@@ -20,6 +20,18 @@ sends_in EmittedToDust c = true
 sends_in StrongToDust c = drives_in c
 
 module _ (near class : Column) where
+  -- the row at place k by row j, where it receives strong power
+  abbrev pub strong_sink : ℕ → ℕ → ℕ
+  strong_sink j k = let i = beside_in near class j k in sink_if (strong_in (row class i)) i
+
+  -- the same of weak power
+  abbrev pub weak_sink : ℕ → ℕ → ℕ
+  weak_sink j k = let i = beside_in near class j k in sink_if (weak_in (row class i)) i
+
+  -- the dust at place k that touches row j
+  abbrev pub touched_sink : ℕ → ℕ → ℕ
+  touched_sink j k = let i = beside_in near class j k in sink_if (touched_in (row class i) k) i
+
   -- the dust above row a, where a rises by the arm
   abbrev pub over_sink : ℕ → ℕ → ℕ
   over_sink a arm = let i = beside_in near class a Above in sink_if (is_dust (kind_in (row class i)) && rises_by_in (row class a) arm) i

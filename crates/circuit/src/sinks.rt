@@ -3,7 +3,7 @@ ghost use Rattle.std.specs.Prelude.{◌≡◌, ◌<◌};
 ghost use Rattle.columns.specs.Column.{row};
 ghost use Rattle.classes.specs.Towards.{places};
 ghost use Rattle.circuit.specs.Circuit.{beside_in, sink_if, level_sink, upper_sink, lower_sink, sink_of, ways};
-ghost use Rattle.circuit.specs.Sinks.{sends_in, over_sink, side_sink};
+ghost use Rattle.circuit.specs.Sinks.{sends_in, strong_sink, weak_sink, touched_sink, over_sink, side_sink};
 ghost use Rattle.circuit.specs.declared.Edge.TheVariants.{EmittedToStrong, StrongToWeak, DustToWeak, Transmits, EmittedToDust, StrongToDust};
 
 use crate::{Edge, Network};
@@ -82,18 +82,44 @@ impl Network<'_> {
         }
     }
 
+    // The row at place k by row j, where it receives strong power.
+    fn strong_sink(self, j: usize, k: usize) -> usize
+        requires { k < places }
+        ensures { result ≡ strong_sink self.entry.near.now self.entry.class.now j k }
+    {
+        let i = self.beside(j, k);
+        sink_if(strong_in(self.class_at(i)), i)
+    }
+
+    // The row at place k by row j, where it receives weak power.
+    fn weak_sink(self, j: usize, k: usize) -> usize
+        requires { k < places }
+        ensures { result ≡ weak_sink self.entry.near.now self.entry.class.now j k }
+    {
+        let i = self.beside(j, k);
+        sink_if(weak_in(self.class_at(i)), i)
+    }
+
+    // The dust at place k that touches row j.
+    fn touched_sink(self, j: usize, k: usize) -> usize
+        requires { k < places }
+        ensures { result ≡ touched_sink self.entry.near.now self.entry.class.now j k }
+    {
+        let i = self.beside(j, k);
+        sink_if(touched_in(self.class_at(i), k as u8), i)
+    }
+
     // The dust beside along the facing f + 1.
     #[tactic(auto, unfolding(crate::specs::Circuit::level_sink))]
     pub fn level_sink(self, j: usize, f: usize) -> usize
         requires { f < 4 }
         ensures { result ≡ level_sink self.entry.near.now self.entry.class.now j f }
     {
-        let i = self.beside(j, f);
-        let place = f as u8;
-        sink_if(
-            leads_in(self.class_at(j), place) && touched_in(self.class_at(i), place),
-            i,
-        )
+        if leads_in(self.class_at(j), f as u8) {
+            self.touched_sink(j, f)
+        } else {
+            NO_ROW as usize
+        }
     }
 
     // The dust above row a, where a rises by the arm.
@@ -176,33 +202,15 @@ impl Network<'_> {
         let own = self.class_at(j);
         let place = k as u8;
         match edge {
-            Edge::EmittedToStrong => {
-                let i = self.beside(j, k);
-                sink_if(charges_in(own, place) && strong_in(self.class_at(i)), i)
-            }
-            Edge::StrongToWeak => {
-                let i = self.beside(j, k);
-                sink_if(weak_in(self.class_at(i)), i)
-            }
-            Edge::DustToWeak => {
-                let i = self.beside(j, k);
-                sink_if(leads_in(own, place) && weak_in(self.class_at(i)), i)
-            }
+            Edge::EmittedToStrong if charges_in(own, place) => self.strong_sink(j, k),
+            Edge::StrongToWeak => self.weak_sink(j, k),
+            Edge::DustToWeak if leads_in(own, place) => self.weak_sink(j, k),
             Edge::Transmits => self.transmit_sink(j, k),
-            Edge::EmittedToDust => {
-                let i = self.beside(j, k);
-                sink_if(
-                    feeds_in(own, place) && touched_in(self.class_at(i), place),
-                    i,
-                )
-            }
-            Edge::StrongToDust => {
-                let i = self.beside(j, k);
-                sink_if(
-                    !feeds_in(own, place) && drives_in(own) && touched_in(self.class_at(i), place),
-                    i,
-                )
-            }
+            Edge::EmittedToDust if feeds_in(own, place) => self.touched_sink(j, k),
+            Edge::StrongToDust if !feeds_in(own, place) && drives_in(own) => self.touched_sink(
+                j, k,
+            ),
+            _ => NO_ROW as usize,
         }
     }
 }

@@ -8,7 +8,7 @@ ghost use Rattle.levels.specs.Lent.{lent};
 ghost use Rattle.levels.specs.Numbers.{electrical_level};
 ghost use Rattle.comparator.specs.Step.{side_level, compared, next_comparator};
 
-use columns::Found;
+use columns::{Found, larger};
 use levels::Numbers;
 use ports::PreparedRow;
 
@@ -26,7 +26,10 @@ fn level_at(numbers: Numbers, found: Found) -> u8
 fn side_level(at: PreparedRow, numbers: Numbers) -> u8
     ensures { result ≡ side_level at.entry.table.now (lent numbers.entry) (sides_of at.entry.table.now at.entry.row) }
 {
-    level_at(numbers, at.first_side_row()).max(level_at(numbers, at.second_side_row()))
+    larger(
+        level_at(numbers, at.first_side_row()),
+        level_at(numbers, at.second_side_row()),
+    )
 }
 
 #[tactic(auto, unfolding(crate::specs::Step::compared))]

@@ -3,6 +3,7 @@ ghost use Rattle.std.specs.Prelude.{◌≡◌, length};
 ghost use Rattle.keys.specs.Rounds.{last_of, shown_by, last_shown};
 
 use crate::key::{level_of, round_of};
+use columns::larger;
 
 // The last round in which a level of dust arrives.
 pub fn last_of(keys: &[u8]) -> u8
@@ -10,7 +11,7 @@ pub fn last_of(keys: &[u8]) -> u8
 {
     let mut last = 0;
     for key in keys {
-        last = last.max(round_of(*key));
+        last = larger(last, round_of(*key));
     }
     last
 }
@@ -33,7 +34,7 @@ pub fn last_shown(base: &[u8], under: &[u8]) -> u8
 {
     let mut last = 0;
     for (i, key) in under.iter().enumerate() {
-        last = last.max(shown(base[i], *key));
+        last = larger(last, shown(base[i], *key));
     }
     last
 }

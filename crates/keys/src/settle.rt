@@ -14,7 +14,7 @@ use crate::pass::fill_keys;
 use crate::rounds::{last_of, last_shown};
 use circuit::{Edge, Network};
 use classes::is_dust_in;
-use columns::zeros;
+use columns::{larger, zeros};
 use power::{fill_power, none_mapped};
 use spread::spread;
 
@@ -51,7 +51,7 @@ fn fill_weak(base: &[u8], under: &[u8], weak: &mut [u8])
     ensures { weak.new ≡ weak_by base.now under.now }
 {
     for (i, level) in weak.iter_mut().enumerate() {
-        *level = base[i].max(level_of(under[i]));
+        *level = larger(base[i], level_of(under[i]));
     }
 }
 

@@ -13,11 +13,11 @@ use borrow.Author.Tests.{leb-true, not-true, not-false}
 use Rattle.columns.specs.Column.{Bytes, part}
 use Rattle.columns.specs.First.{all_below}
 use Rattle.columns.proofs.First.{all_at}
-use Rattle.columns.proofs.Parts.{part_at}
 use Rattle.columns.proofs.Truth.{and_true}
 use Rattle.places.specs.declared.Pos.{Pos}
 use Rattle.places.proofs.Steps.{InRange}
 use Rattle.world.specs.Rows.{byte_of, word_of, pos_of, level_or}
+use Rattle.world.proofs.Lent.{part_byte as lent_byte}
 use Rattle.layout.specs.Good.{in_range, good_place, good_value, good_support, good_arms, good_row}
 
 -- ---- the fields
@@ -178,7 +178,7 @@ good_same t u i j agree =
 module _ (t : Bytes) (i : ℕ) where
   -- it has the bytes that it has in the table
   pub part_byte : (b : ℕ) → b < 32 → byte_of (part 32 t i) 0 b ≡ byte_of t i b
-  part_byte b l = rw (zero-add b) (part_at 32 t i b l)
+  part_byte = lent_byte t i
 
   -- and stands where it stands there
   pub part_place : pos_of (part 32 t i) 0 ≡ pos_of t i

@@ -7,7 +7,7 @@ ghost use Rattle.std.specs.Prelude.{◌≡◌};
 ghost use Rattle.levels.specs.Numbers.{number, power_at, has_power, electrical_level};
 ghost use Rattle.levels.specs.Lent.{lent};
 
-use columns::byte_at;
+use columns::{byte_at, larger};
 
 pub fn number(b: bool) -> u8
     ensures { result ≡ number b }
@@ -27,7 +27,7 @@ impl<'a> Power<'a> {
     pub fn level_at(self, row: usize) -> u8
         ensures { result ≡ power_at self.entry.weak.now self.entry.strong.now row }
     {
-        byte_at(self.weak, row).max(byte_at(self.strong, row))
+        larger(byte_at(self.weak, row), byte_at(self.strong, row))
     }
 
     pub fn any_at(self, row: usize) -> bool
@@ -49,6 +49,6 @@ impl<'a> Numbers<'a> {
     pub fn electrical_level(self, row: usize) -> u8
         ensures { result ≡ electrical_level (lent self.entry) row }
     {
-        byte_at(self.signal, row).max(self.power.level_at(row))
+        larger(byte_at(self.signal, row), self.power.level_at(row))
     }
 }

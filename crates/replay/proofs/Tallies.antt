@@ -17,7 +17,7 @@ pub counted : (b : Bool) (n : ℕ) → n + from_bool b ≡ count_if b n
 counted true n = refl
 counted false n = omega arith
 
-count_most : (b : Bool) (n : ℕ) → count_if b n ≤ n + 1
+pub count_most : (b : Bool) (n : ℕ) → count_if b n ≤ n + 1
 count_most true n = omega arith
 count_most false n = omega arith
 

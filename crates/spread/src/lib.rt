@@ -6,6 +6,7 @@ ghost use Rattle.spread.specs.Spread.{raised, spread_from, spread};
 ghost use Rattle.circuit.specs.declared.Edge.TheVariants.{Transmits};
 
 use circuit::{Edge, Network};
+use columns::larger;
 
 // Raises a row to a level. A row past the last is none.
 #[tactic(auto, using(crate::proofs::Lifted::set_raised, crate::proofs::Lifted::past_raised))]
@@ -13,7 +14,7 @@ pub fn raise(out: &mut [u8], i: usize, level: u8)
     ensures { out.new ≡ raised out.old i level }
 {
     if i < out.len() {
-        out[i] = out[i].max(level);
+        out[i] = larger(out[i], level);
     }
 }
 

@@ -4,7 +4,7 @@
 ghost use Rattle.std.specs.Prelude.{◌≡◌};
 ghost use Rattle.torch.specs.Step.{torch_support_is_powered, next_toggles, next_candidate, torch_row};
 
-use columns::Found;
+use columns::{Found, larger};
 use levels::{Power, number};
 use ports::PreparedRow;
 use states::bits::is_candidate;
@@ -35,7 +35,7 @@ fn next_toggles(old: u32, toggled: bool) -> u32
 fn next_candidate(old: u8, toggles: u32) -> u8
     ensures { result ≡ next_candidate old toggles }
 {
-    old.max(number(is_candidate(toggles)))
+    larger(old, number(is_candidate(toggles)))
 }
 
 #[tactic(auto, unfolding(crate::specs::Step::torch_row))]

@@ -38,11 +38,14 @@ pub fn byte_of(table: &[u8], row: usize, b: usize) -> u8
     table[start + b]
 }
 
-// The signed number in the four bytes from byte b on, low byte first.
+// The signed number in the four bytes from byte b on, low byte first. Of a row that is there whole no byte is asked for its being there.
 fn coordinate(table: &[u8], row: usize, b: usize) -> i32
     requires { b < 29 }
     ensures { result ≡ signed32 (word_of table.now row b) }
 {
+    if row < rows(table) {
+        return coordinate_in(row_in(table, row), b);
+    }
     i32::from_le_bytes([
         byte_of(table, row, b),
         byte_of(table, row, b + 1),

@@ -71,16 +71,19 @@ fn every_public_function_has_its_promise() {
     assert!(missing.is_empty(), "not in docs/PROMISES.md: {missing:#?}");
 }
 
-/// The public functions of a source that have a `requires`.
+/// The public functions of a source that have a `requires`, and the methods of its public traits that do.
 fn requiring(source: &str) -> Vec<String> {
     let mut requiring = Vec::new();
     let mut public = None;
+    let mut in_trait = false;
     for line in source.lines() {
         let code = line.trim_start();
+        in_trait = line.starts_with("pub trait ") || (in_trait && line != "}");
         if code.starts_with("fn ") || code == "{" {
             public = None;
         }
-        public = declared_function(line).or(public);
+        let method = if in_trait { declared_function(&format!("pub {code}")) } else { None };
+        public = declared_function(line).or(method).or(public);
         // A clause on memory and loans has a star.
         if code.starts_with("requires ") || code.starts_with("requires* ") {
             requiring.extend(public.take());

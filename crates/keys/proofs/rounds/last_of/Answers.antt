@@ -13,7 +13,7 @@ loop-key-init c = sym (top_none _)
 
 pub loop-key-preserved : goal.loop-key-preserved
 loop-key-preserved c =
-    let more : c.max-last.result ≡ max c.loop-key.last c.round_of.result = search rules in
+    let more : c.larger-last.result ≡ max c.loop-key.last c.round_of.result = search rules in
     more ∙ rw (c.loop-key.invariant, c.round_of.ensures) (sym (top_more _ _))
 
 pub returns : goal.returns

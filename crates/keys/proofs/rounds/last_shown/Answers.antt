@@ -13,7 +13,7 @@ loop-i-init c = sym (top_none _)
 
 pub loop-i-preserved : goal.loop-i-preserved
 loop-i-preserved c =
-    let more : c.max-last.result ≡ max c.loop-i.last c.shown.result = search rules in
+    let more : c.larger-last.result ≡ max c.loop-i.last c.shown.result = search rules in
     more ∙ rw (c.loop-i.invariant, c.shown.ensures) (sym (top_more _ _))
 
 pub returns : goal.returns
